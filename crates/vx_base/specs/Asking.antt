@@ -2,11 +2,11 @@
 use Rattle.std.specs.Prelude.{◌≡◌, ℕ, ◌+◌, ◌≤◌, Bool, ◌&&◌, ◌==◌, ◌⊎◌, List, [], ◌∷◌, ◌++◌, length, map, count_by, Option, Some, None, is_some, Ok, Err, Result, if◌then◌else◌}
 use Rattle.std.specs.Option.{option_map}
 use Rattle.vx_base.specs.Buffer.{Buffer, bytes_at}
-use Rattle.vx_base.specs.declared.answering.ReadAtRequest.{ReadAtRequest}
-use Rattle.vx_base.specs.declared.answering.RangeAnswer.{RangeAnswer}
-use Rattle.vx_base.specs.declared.faults.Failed.{Failed}
-use Rattle.vx_base.specs.declared.faults.FaultKind.{FaultKind}
-use Rattle.vx_base.specs.declared.faults.FaultKind.TheVariants.{ReadFault, ShortRead, MissingRange}
+use Rattle.vx_base.specs.declared.answer.ReadAtRequest.{ReadAtRequest}
+use Rattle.vx_base.specs.declared.answer.RangeAnswer.{RangeAnswer}
+use Rattle.vx_base.specs.declared.fault.Failed.{Failed}
+use Rattle.vx_base.specs.declared.fault.FaultKind.{FaultKind}
+use Rattle.vx_base.specs.declared.fault.FaultKind.TheVariants.{ReadFault, ShortRead, MissingRange}
 
 -- a range that was asked, and why it got no bytes of its length, if it got none
 pub record Asked : Type 0 where

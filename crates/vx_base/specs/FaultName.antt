@@ -1,7 +1,7 @@
 -- The words for kinds of faults.
 use Rattle.std.specs.Prelude.{ℕ, List, codes}
-use Rattle.vx_base.specs.declared.faults.FaultKind.{FaultKind}
-use Rattle.vx_base.specs.declared.faults.FaultKind.TheVariants.{ReadFault, ShortRead, MissingRange}
+use Rattle.vx_base.specs.declared.fault.FaultKind.{FaultKind}
+use Rattle.vx_base.specs.declared.fault.FaultKind.TheVariants.{ReadFault, ShortRead, MissingRange}
 
 -- the name of a kind
 abbrev pub fault_name : FaultKind → List ℕ

@@ -67,7 +67,7 @@ pub enum OpenerError {
 
 impl From<AllocError> for CloneError {
     ghost use Rattle.std.specs.Prelude.{◌≡◌};
-    ghost use Rattle.vx_base.specs.declared.faults.CloneError.TheVariants.{OutOfMemory};
+    ghost use Rattle.vx_base.specs.declared.fault.CloneError.TheVariants.{OutOfMemory};
 
     ghost from_gives = { λ _ e. e ≡ OutOfMemory };
 
@@ -78,7 +78,7 @@ impl From<AllocError> for CloneError {
 
 impl<T: Drop> From<AllocFailed<T>> for CloneError {
     ghost use Rattle.std.specs.Prelude.{◌≡◌};
-    ghost use Rattle.vx_base.specs.declared.faults.CloneError.TheVariants.{OutOfMemory};
+    ghost use Rattle.vx_base.specs.declared.fault.CloneError.TheVariants.{OutOfMemory};
 
     ghost from_gives = { λ _ e. e ≡ OutOfMemory };
 
@@ -89,7 +89,7 @@ impl<T: Drop> From<AllocFailed<T>> for CloneError {
 
 impl From<AllocError> for SinkError {
     ghost use Rattle.std.specs.Prelude.{◌≡◌};
-    ghost use Rattle.vx_base.specs.declared.faults.SinkError.TheVariants.{OutOfMemory};
+    ghost use Rattle.vx_base.specs.declared.fault.SinkError.TheVariants.{OutOfMemory};
 
     ghost from_gives = { λ _ e. e ≡ OutOfMemory };
 
@@ -100,7 +100,7 @@ impl From<AllocError> for SinkError {
 
 impl<T: Drop> From<AllocFailed<T>> for SinkError {
     ghost use Rattle.std.specs.Prelude.{◌≡◌};
-    ghost use Rattle.vx_base.specs.declared.faults.SinkError.TheVariants.{OutOfMemory};
+    ghost use Rattle.vx_base.specs.declared.fault.SinkError.TheVariants.{OutOfMemory};
 
     ghost from_gives = { λ _ e. e ≡ OutOfMemory };
 
@@ -111,7 +111,7 @@ impl<T: Drop> From<AllocFailed<T>> for SinkError {
 
 impl From<AllocError> for OpenerError {
     ghost use Rattle.std.specs.Prelude.{◌≡◌};
-    ghost use Rattle.vx_base.specs.declared.faults.OpenerError.TheVariants.{OutOfMemory};
+    ghost use Rattle.vx_base.specs.declared.fault.OpenerError.TheVariants.{OutOfMemory};
 
     ghost from_gives = { λ _ e. e ≡ OutOfMemory };
 
@@ -122,7 +122,7 @@ impl From<AllocError> for OpenerError {
 
 impl<T: Drop> From<AllocFailed<T>> for OpenerError {
     ghost use Rattle.std.specs.Prelude.{◌≡◌};
-    ghost use Rattle.vx_base.specs.declared.faults.OpenerError.TheVariants.{OutOfMemory};
+    ghost use Rattle.vx_base.specs.declared.fault.OpenerError.TheVariants.{OutOfMemory};
 
     ghost from_gives = { λ _ e. e ≡ OutOfMemory };
 

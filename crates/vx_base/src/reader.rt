@@ -3,7 +3,7 @@ ghost use Rattle.std.specs.Prelude.{◌≡◌, ℕ, ◌≤◌, ◌++◌, List, [
 ghost use Rattle.std.specs.Option.{option_map};
 ghost use Rattle.vx_base.specs.Asking.{Log, logged, faulted, GrewOrStayed, IsInside, IsTrueTo};
 ghost use Rattle.vx_base.specs.Counts.{Rises};
-ghost use Rattle.vx_base.specs.declared.segments.CoalesceConfig.{CoalesceConfig};
+ghost use Rattle.vx_base.specs.declared.segment.CoalesceConfig.{CoalesceConfig};
 
 use crate::{CloneError, CoalesceConfig, Failed, RangeAnswer, ReadAtRequest};
 use std::alloc::{AllocError, Global};
