@@ -1,0 +1,17 @@
+// What a reader is asked, and what it answers.
+use crate::{Alignment, ByteBuffer, Failed};
+
+/// A range of a file that is to be read, and the alignment that its bytes are to claim.
+#[derive(Clone, Copy, Debug, PartialEq, Eq)]
+pub struct ReadAtRequest {
+    pub offset: u64,
+    pub length: usize,
+    pub alignment: Alignment,
+}
+
+/// An answer of a reader, which names the range that it answers.
+#[derive(Drop)]
+pub struct RangeAnswer {
+    pub request: ReadAtRequest,
+    pub result: Result<ByteBuffer, Failed>,
+}
