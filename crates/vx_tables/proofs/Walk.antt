@@ -49,4 +49,3 @@ pub within-deeper : {A : Type 0} (l n : ℕ) (c : Option (Counted A)) → within
 unfolding within deeper
 within-deeper l n None = refl
 within-deeper l n (Some c) = grind (arith, nat_tests)
-

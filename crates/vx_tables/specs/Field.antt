@@ -30,6 +30,10 @@ num w b at = do
   cells ← bytes b at (byte_len w)
   Some (from_le_bytes w cells)
 
+-- the place that the offset at a place leads to
+unfoldable pub target : List ℕ → ℕ → Option ℕ
+target b at = num w32 b at >>= forward b at
+
 -- ---- tables
 
 -- a table: its place, that of its vtable, and the vtable's size
@@ -46,13 +50,11 @@ table_at b at = do
   size ← num w16 b vtable
   own ← num w16 b (vtable + 2)
   if nat_le 4 size && nat_le 4 own && nat_le size (length b - vtable)
-    then Some (record { place = at; vtable = vtable; size = size }) else None
+      then Some (record { place = at; vtable = vtable; size = size }) else None
 
--- the root table
+-- the root table: the offset to it stands first
 unfoldable pub root : List ℕ → Option Table
-root b = do
-  at ← num w32 b 0
-  table_at b at
+root b = target b 0 >>= table_at b
 
 -- where an entry of a vtable leads: nowhere where it is 0
 unfoldable pub entry_place : List ℕ → Table → ℕ → Option (Option ℕ)
@@ -73,10 +75,6 @@ optional read (Some at) = read at >>= (λ x. Some (Some x))
 -- a number
 unfoldable pub field : Width → List ℕ → Table → ℕ → Option (Option ℕ)
 field w b t k = slot b t k >>= optional (num w b)
-
--- the place that the offset at a place leads to
-unfoldable pub target : List ℕ → ℕ → Option ℕ
-target b at = num w32 b at >>= forward b at
 
 -- the text at a place
 unfoldable pub text : List ℕ → ℕ → Option (List ℕ)
@@ -102,22 +100,29 @@ vector b at elements = do
   count ← num w32 b at
   if nat_le (count * element_size elements) (length b - (at + 4)) then Some (record { first = at + 4; count = count }) else None
 
+-- where the offset of a field leads
+unfoldable pub target_field : List ℕ → Table → ℕ → Option (Option ℕ)
+target_field b t k = slot b t k >>= optional (target b)
+
 unfoldable pub text_field : List ℕ → Table → ℕ → Option (Option (List ℕ))
-text_field b t k = slot b t k >>= optional (λ at. target b at >>= text b)
+text_field b t k = target_field b t k >>= optional (text b)
 
 unfoldable pub table_field : List ℕ → Table → ℕ → Option (Option Table)
-table_field b t k = slot b t k >>= optional (λ at. target b at >>= table_at b)
+table_field b t k = target_field b t k >>= optional (table_at b)
 
 unfoldable pub vector_field : List ℕ → Table → ℕ → Elements → Option (Option Vector)
-vector_field b t k elements = slot b t k >>= optional (λ at. target b at >>= (λ to. vector b to elements))
+vector_field b t k elements = target_field b t k >>= optional (λ at. vector b at elements)
 
 -- ---- elements of a vector of offsets, each relative to its own place
 
+abbrev pub element_target : List ℕ → Vector → ℕ → Option ℕ
+element_target b v i = target b (v.first + 4 * i)
+
 unfoldable pub text_of_vector : List ℕ → Vector → ℕ → Option (List ℕ)
-text_of_vector b v i = target b (v.first + 4 * i) >>= text b
+text_of_vector b v i = element_target b v i >>= text b
 
 unfoldable pub table_of_vector : List ℕ → Vector → ℕ → Option Table
-table_of_vector b v i = target b (v.first + 4 * i) >>= table_at b
+table_of_vector b v i = element_target b v i >>= table_at b
 
 -- all bytes of a vector's elements
 abbrev pub element_bytes : List ℕ → Vector → Elements → List ℕ

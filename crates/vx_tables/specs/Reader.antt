@@ -1,7 +1,7 @@
 -- What the readers stand for, and what their calls give.
-use Rattle.std.specs.Prelude.{ℕ, zero, suc, ◌-◌, nat_le, if◌then◌else◌, List, Option, Some, None, Result, Ok, Err}
+use Rattle.std.specs.Prelude.{◌≡◌, ℕ, zero, suc, ◌+◌, ◌-◌, nat_le, if◌then◌else◌, List, Option, Some, None, Result, Ok, Err}
 use Rattle.vx_tables.specs.declared.elements.Elements.{Elements}
-use Rattle.vx_tables.specs.Field.{◌>>=◌, Table, Vector, root, table_field, vector_field, table_of_vector}
+use Rattle.vx_tables.specs.Field.{Table, Vector}
 
 -- inside a table: the root's bytes, the table, and how many levels may still be entered
 pub record InTable : Type 0 where
@@ -16,30 +16,32 @@ pub record InVector : Type 0 where
   pub elements : Elements
   pub levels : ℕ
 
--- a table that is entered takes one level
-abbrev pub in_table : List ℕ → ℕ → Table → Option InTable
-in_table b zero t = None
-in_table b (suc levels) t = Some (record { bytes = b; table = t; levels = levels })
+-- a table that is reached from another: in the same bytes, one level deeper
+pub record IsBelow (outer inner : InTable) : Type 0 where
+  pub bytes : inner.bytes ≡ outer.bytes
+  pub levels : inner.levels + 1 ≡ outer.levels
 
-abbrev pub in_optional_table : List ℕ → ℕ → Option Table → Option (Option InTable)
-in_optional_table b levels None = Some None
-in_optional_table b levels (Some t) = in_table b levels t >>= (λ r. Some (Some r))
+-- a vector of a table: in the same bytes, at the same level
+pub record IsVectorOf (outer : InTable) (elements : Elements) (inner : InVector) : Type 0 where
+  pub bytes : inner.bytes ≡ outer.bytes
+  pub kind : inner.elements ≡ elements
+  pub levels : inner.levels ≡ outer.levels
 
-abbrev pub in_optional_vector : List ℕ → ℕ → Elements → Option Vector → Option InVector
-in_optional_vector b levels elements None = None
-in_optional_vector b levels elements (Some v) = Some (record { bytes = b; vector = v; elements = elements; levels = levels })
+-- a table that is an element of a vector
+pub record IsElementOf (outer : InVector) (inner : InTable) : Type 0 where
+  pub bytes : inner.bytes ≡ outer.bytes
+  pub levels : inner.levels + 1 ≡ outer.levels
 
-abbrev pub in_root : List ℕ → Option InTable
-in_root b = root b >>= in_table b 64
+-- no table is reached where no level is left
+abbrev pub reached : ℕ → Option Table → Option Table
+reached zero t = None
+reached (suc levels) t = t
 
-abbrev pub in_field : InTable → ℕ → Option (Option InTable)
-in_field r k = table_field r.bytes r.table k >>= in_optional_table r.bytes r.levels
-
-abbrev pub in_vector : InTable → ℕ → Elements → Option (Option InVector)
-in_vector r k elements = vector_field r.bytes r.table k elements >>= (λ v. Some (in_optional_vector r.bytes r.levels elements v))
-
-abbrev pub in_element : InVector → ℕ → Option InTable
-in_element r i = table_of_vector r.bytes r.vector i >>= in_table r.bytes r.levels
+abbrev pub reached_optional : ℕ → Option (Option Table) → Option (Option Table)
+reached_optional levels None = None
+reached_optional levels (Some None) = Some None
+reached_optional zero (Some (Some t)) = None
+reached_optional (suc levels) (Some (Some t)) = Some (Some t)
 
 -- ---- what a call gives
 

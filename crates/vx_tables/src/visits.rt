@@ -1,3 +1,7 @@
+ghost use Rattle.std.specs.Prelude.{◌≡◌, nat_le, ◌-◌, if◌then◌else◌, is_ok};
+ghost use Rattle.vx_tables.specs.Counted.{most_visits};
+
+use crate::bad_table::BadTable;
 use std::marker::Model;
 
 /// How many visits of one table root are left.
@@ -15,15 +19,22 @@ impl Model for Visits {
 }
 
 impl Visits {
-    ghost use Rattle.std.specs.Prelude.{◌≡◌, nat_le, ◌-◌, if◌then◌else◌, Ok, Err, Some, None};
-    ghost use Rattle.std.specs.Result.{result_ok};
-    ghost use Rattle.vx_tables.specs.Counted.{most_visits};
-    ghost use Rattle.vx_tables.specs.Reader.{charge, taken};
-
     /// All visits of a root.
     pub fn new() -> Visits
         ensures { result ≡ most_visits }
     {
         Visits { left: 1_000_000 }
+    }
+
+    /// Takes as many visits as the cost, where they are left.
+    pub fn charge(&mut self, cost: u64) -> Result<(), BadTable>
+        ensures enough { is_ok result ≡ nat_le cost self.old }
+        ensures left { self.new ≡ (if is_ok result then self.old - cost else self.old) }
+    {
+        if cost > self.left {
+            return Err(BadTable);
+        }
+        self.left -= cost;
+        Ok(())
     }
 }
