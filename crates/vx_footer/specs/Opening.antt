@@ -1,13 +1,12 @@
 -- What a file is: the opening checks in order, each a named condition on the whole file, and the footer
 -- where all of them hold. The first check that fails names the refusal.
 use Rattle.std.specs.Prelude.{ℕ, ◌≡◌, ◌+◌, ◌-◌, Bool, ◌&&◌, ◌||◌, true, false, not, ◌==◌, nat_le, nat_lt, min, if◌then◌else◌, List, [], ◌∷◌, length, take, drop, codes, Option, Some, None, is_some, is_none, slice_get, Result, Ok, Err}
-use Rattle.std.specs.Int.{w16}
+use Rattle.std.specs.Int.{w16, from_le_bytes}
 use Rattle.std.specs.Str.{bytes_eq}
 use Rattle.vx_base.specs.Buffer.{bytes_at}
 use Rattle.vx_base.specs.declared.segment.SegmentSpec.{SegmentSpec}
-use Rattle.vx_tables.specs.Field.{num}
 use Rattle.vx_tables.specs.Counted.{allowed}
-use Rattle.vx_footer.specs.Tables.{or_zero, postscript_table, dtype_table, layout_table, footer_table}
+use Rattle.vx_footer.specs.Tables.{postscript_table, dtype_table, layout_table, footer_table}
 use Rattle.vx_footer.specs.declared.error.OpenError.{OpenError}
 use Rattle.vx_footer.specs.declared.error.OpenError.TheVariants.{TooSmall, BadMagic, BadVersion, PostscriptTooLong, BadTable, Unsupported, BadAlignment, MissingDType, OutOfBounds, UnknownEncoding, PastEnd, OutOfMemory}
 use Rattle.vx_footer.specs.declared.error.Which.TheVariants as which
@@ -39,14 +38,18 @@ e lacking (Some x) = Ok x
 
 -- ---- the end marker: a version, the postscript's length, and the magic
 
+-- the last eight bytes
+abbrev pub marker_of : List ℕ → List ℕ
+marker_of file = drop (length file - 8) file
+
 abbrev pub version_of : List ℕ → ℕ
-version_of file = or_zero (num w16 file (length file - 8))
+version_of file = from_le_bytes w16 (take 2 (marker_of file))
 
 abbrev pub postscript_length : List ℕ → ℕ
-postscript_length file = or_zero (num w16 file (length file - 6))
+postscript_length file = from_le_bytes w16 (take 2 (drop 2 (marker_of file)))
 
 abbrev pub ends_with_magic : List ℕ → Bool
-ends_with_magic file = bytes_eq (drop (length file - 4) file) (codes "VTXF")
+ends_with_magic file = bytes_eq (drop 4 (marker_of file)) (codes "VTXF")
 
 -- the postscript stands directly before the end marker
 abbrev pub postscript_bytes : List ℕ → List ℕ
@@ -154,6 +157,22 @@ dtype_checks bytes = do
   d ← BadTable which.DType lacking allowed (dtype_table bytes)
   Unsupported lacking ptype_of d
 
+-- the checks on the layout and the segment that a footer's table names, of a file of this size
+unfoldable pub layout_and_segment : FooterTable → ℕ → List ℕ → Result (LayoutTable × SegmentSpec) OpenError
+layout_and_segment f size layout_bytes = do
+  _ ← Unsupported unless is_plain f.segment
+  l ← layout_checks f layout_bytes
+  _ ← Unsupported unless is_small f
+  segment ← segment_checks f.segment size
+  Ok (l, segment)
+
+-- the checks on the footer's table and the layout's, of a file of this size
+unfoldable pub footer_checks : PType → ℕ → List ℕ → List ℕ → Result Footer OpenError
+footer_checks ptype size footer_bytes layout_bytes = do
+  f ← BadTable which.Footer lacking allowed (footer_table footer_bytes)
+  parts ← layout_and_segment f size layout_bytes
+  Ok (record { row_count = parts.0.row_count; ptype = ptype; segment = record { 0 = parts.0.segment }; segments = parts.1 ∷ []; array_ids = f.arrays })
+
 -- the checks on the tables, which are got by `piece`, of a file of this size
 unfoldable pub table_checks : (Locator → Option (List ℕ)) → ℕ → Tables → Result Footer OpenError
 table_checks piece size t = do
@@ -161,12 +180,7 @@ table_checks piece size t = do
   ptype ← dtype_checks dtype_bytes
   footer_bytes ← OutOfBounds lacking piece t.footer
   layout_bytes ← OutOfBounds lacking piece t.layout
-  f ← BadTable which.Footer lacking allowed (footer_table footer_bytes)
-  _ ← Unsupported unless is_plain f.segment
-  l ← layout_checks f layout_bytes
-  _ ← Unsupported unless is_small f
-  segment ← segment_checks f.segment size
-  Ok (record { row_count = l.row_count; ptype = ptype; segment = record { 0 = l.segment }; segments = segment ∷ []; array_ids = f.arrays })
+  footer_checks ptype size footer_bytes layout_bytes
 
 -- ---- the file
 
@@ -206,11 +220,11 @@ pub record IsTail (file : List ℕ) (start : ℕ) (tail : List ℕ) : Type 0 whe
 
 -- ---- what a function answers
 
--- what a function returned is what a definition gives, unless memory ran out
+-- what a function returned, seen by a view, is what a definition gives, unless memory ran out
 abbrev pub Fails : {A : Type 0} → OpenError → Result A OpenError → Type 0
 Fails OutOfMemory answer = Unit {0}
 Fails e answer = answer ≡ Err e
 
-abbrev pub Gives : {A : Type 0} → Result A OpenError → Result A OpenError → Type 0
-Gives (Ok x) answer = answer ≡ Ok x
-Gives (Err e) answer = Fails e answer
+abbrev pub Gives : {X A : Type 0} → (X → A) → Result X OpenError → Result A OpenError → Type 0
+Gives view (Ok x) answer = answer ≡ Ok (view x)
+Gives view (Err e) answer = Fails e answer

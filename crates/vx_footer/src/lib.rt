@@ -4,8 +4,12 @@
 mod error;
 mod footer;
 mod list;
+mod marker;
+mod opening;
+mod postscript;
 mod ptype;
 mod table;
+mod table_reading;
 
 pub use error::{OpenError, Which};
 pub use footer::Footer;
