@@ -1,17 +1,14 @@
 -- How answers of a reader are matched to the ranges that it was asked, and the log of both.
-use Rattle.std.specs.Prelude.{◌≡◌, ℕ, ◌+◌, ◌≤◌, Bool, ◌&&◌, ◌==◌, ◌⊎◌, List, [], ◌∷◌, ◌++◌, length, map, count_by, Option, Some, None, is_some, Ok, Err, Result, if◌then◌else◌}
+use Rattle.std.specs.Prelude.{◌≡◌, ℕ, ◌+◌, ◌≤◌, Bool, ◌&&◌, ◌==◌, ◌⊎◌, List, [], ◌∷◌, ◌++◌, length, map, find, count_by, Option, Some, None, is_some, Ok, Err, Result, if◌then◌else◌, refl}
 use Rattle.std.specs.Option.{option_map}
+use Rattle.std.proofs.Common.{ap}
 use Rattle.vx_base.specs.Buffer.{Buffer, bytes_at}
 use Rattle.vx_base.specs.declared.answer.ReadAtRequest.{ReadAtRequest}
 use Rattle.vx_base.specs.declared.answer.RangeAnswer.{RangeAnswer}
+pub use Rattle.vx_base.specs.declared.answer.Asked.{Asked}
 use Rattle.vx_base.specs.declared.fault.Failed.{Failed}
 use Rattle.vx_base.specs.declared.fault.FaultKind.{FaultKind}
 use Rattle.vx_base.specs.declared.fault.FaultKind.TheVariants.{ReadFault, ShortRead, MissingRange}
-
--- a range that was asked, and why it got no bytes of its length, if it got none
-pub record Asked : Type 0 where
-  pub range : ReadAtRequest
-  pub mark : Option FaultKind
 
 -- all that a reader was asked, in order
 abbrev pub Log : Type 0
@@ -25,34 +22,44 @@ ranges_of log = map (λ a. a.range) log
 abbrev pub faulted : Log → ℕ
 faulted log = count_by (λ a. is_some a.mark) log
 
+-- a list without its first element that passes the test
+abbrev pub without_first : {X : Type 0} → (X → Bool) → List X → List X
+without_first test [] = []
+without_first test (x ∷ rest) = if test x then rest else x ∷ without_first test rest
+
+-- whether two ranges are one in offset, length and alignment
+abbrev pub same_range : ReadAtRequest → ReadAtRequest → Bool
+same_range a b = (a.offset == b.offset) && (a.length == b.length) && (a.alignment == b.alignment)
+
 -- whether an answer names exactly this range
 abbrev pub names : ReadAtRequest → RangeAnswer → Bool
-names range answer = (answer.request.offset == range.offset)
-    && (answer.request.length == range.length) && (answer.request.alignment == range.alignment)
+names range answer = same_range range answer.request
 
 -- the first answer that names a range
 abbrev pub answer_to : ReadAtRequest → List RangeAnswer → Option RangeAnswer
-answer_to range [] = None
-answer_to range (a ∷ rest) = if names range a then Some a else answer_to range rest
+answer_to range answers = find (names range) answers
 
 -- the answers without the first one that names a range
 abbrev pub without_answer : ReadAtRequest → List RangeAnswer → List RangeAnswer
-without_answer range [] = []
-without_answer range (a ∷ rest) = if names range a then rest else a ∷ without_answer range rest
+without_answer range answers = without_first (names range) answers
+
+-- what this many bytes say of a range of this length
+abbrev pub mark_of_bytes : ℕ → ℕ → Option FaultKind
+mark_of_bytes size count = if count == size then None else Some ShortRead
 
 -- what a result says of a range of this length
 abbrev pub mark_of_result : ℕ → Result Buffer Failed → Option FaultKind
-mark_of_result size (Ok buffer) = if length buffer.bytes == size then None else Some ShortRead
+mark_of_result size (Ok buffer) = mark_of_bytes size (length buffer.bytes)
 mark_of_result size (Err _) = Some ReadFault
 
--- what the answer to a range says of it
-abbrev pub mark_of_answer : ReadAtRequest → Option RangeAnswer → Option FaultKind
-mark_of_answer range None = Some MissingRange
-mark_of_answer range (Some a) = mark_of_result range.length a.result
+-- what the answer to a range of this length says of it
+abbrev pub mark_of_answer : ℕ → Option RangeAnswer → Option FaultKind
+mark_of_answer size None = Some MissingRange
+mark_of_answer size (Some a) = mark_of_result size a.result
 
 -- the mark of a range by the first answer that names it
 abbrev pub mark_of : ReadAtRequest → List RangeAnswer → Option FaultKind
-mark_of range answers = mark_of_answer range (answer_to range answers)
+mark_of range answers = mark_of_answer range.length (answer_to range answers)
 
 -- the ranges asked in one call, each marked by the first answer left that names it
 abbrev pub logged : List ReadAtRequest → List RangeAnswer → Log
@@ -75,3 +82,8 @@ abbrev pub IsTrueTo : List ℕ → RangeAnswer → Type 0
 IsTrueTo bytes answer = (buffer : Buffer) → answer.result ≡ Ok buffer →
     length buffer.bytes ≡ answer.request.length →
     buffer.bytes ≡ bytes_at bytes answer.request.offset answer.request.length
+
+-- the ranges of a log are those that were asked
+pub ranges_of-logged : (asked : List ReadAtRequest) (answers : List RangeAnswer) → ranges_of (logged asked answers) ≡ asked
+ranges_of-logged [] answers = refl
+ranges_of-logged (r ∷ rest) answers = ap (λ rs. r ∷ rs) (ranges_of-logged rest (without_answer r answers))

@@ -1,5 +1,5 @@
 // What a reader is asked, and what it answers.
-use crate::{Alignment, ByteBuffer, Failed};
+use crate::{Alignment, ByteBuffer, Failed, FaultKind};
 
 /// A range of a file that is to be read, and the alignment that its bytes are to claim.
 #[derive(Clone, Copy, Debug, PartialEq, Eq)]
@@ -14,4 +14,11 @@ pub struct ReadAtRequest {
 pub struct RangeAnswer {
     pub request: ReadAtRequest,
     pub result: Result<ByteBuffer, Failed>,
+}
+
+/// A range that a reader was asked, and its mark: why it got no bytes of its length, if it got none.
+#[derive(Clone, Copy, Debug, PartialEq, Eq)]
+pub struct Asked {
+    pub range: ReadAtRequest,
+    pub mark: Option<FaultKind>,
 }

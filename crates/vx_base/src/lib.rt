@@ -6,15 +6,17 @@ mod alignment;
 mod answer;
 mod buffer;
 mod fault;
+mod matching;
 mod opener;
 mod reader;
 mod segment;
 mod stream;
 
 pub use alignment::{Alignment, BadAlignment};
-pub use answer::{RangeAnswer, ReadAtRequest};
+pub use answer::{Asked, RangeAnswer, ReadAtRequest};
 pub use buffer::ByteBuffer;
 pub use fault::{CloneError, Failed, FaultKind, OpenerError, SinkError};
+pub use matching::log_answers;
 pub use opener::Opener;
 pub use reader::Reader;
 pub use segment::{CoalesceConfig, SegmentId, SegmentSpec};
