@@ -7,4 +7,6 @@ pub enum Step {
     Register(u32),
     /// Polls a request, by the number that its register answered.
     Poll(u64),
+    /// Reads what was polled and waits.
+    Drive,
 }
