@@ -1,10 +1,12 @@
 -- Walking within limits: what is left after one step is the limit of the next.
-use Rattle.std.proofs.Common.{◌≡◌, ℕ, zero, suc, ◌+◌, ◌-◌, ◌≤◌, ◌<◌, max, Bool, true, false, cond, ltb, List, [], ◌∷◌, Option, Some, None, refl, sym, ap, subst, ◌∙◌, arith, inl, inr}
+use Rattle.std.proofs.Common.{◌≡◌, ℕ, zero, suc, ◌+◌, ◌-◌, ◌≤◌, ◌<◌, max, Bool, true, false, cond, ltb, List, [], ◌∷◌, ◌++◌, append_assoc, Option, Some, None, refl, sym, ap, subst, ◌∙◌, arith, inl, inr}
 use Rattle.std.specs.Prelude.{nat_le}
+use Rattle.std.specs.Option.{option_map}
 use Rattle.std.proofs.lemmas.Bool.Decides.{nat_tests}
-use Rattle.vx_tables.specs.Counted.{Counted, both, ◌>>=◌, pure, counted, free, deeper, within, enter, enter_optional, each_from, optional_cost}
+use Rattle.std.proofs.lemmas.List.{append-nil}
+use Rattle.vx_tables.specs.Counted.{Counted, both, ◌>>=◌, pure, counted, free, deeper, within, enter, enter_optional, each_from, one, optional_cost}
 use Rattle.vx_tables.specs.Field.{Table, ◌>>=◌ as ◌then◌}
-use Rattle.vx_tables.specs.Reader.{charge}
+use Rattle.vx_tables.specs.Reader.{charge, reached, reached_optional}
 
 choice-then : {A B : Type 0} (b c : Bool) (x : A) (f : A → Option B) → (cond b (cond c (Some x) None) None then f) ≡ cond b (cond c (f x) None) None
 choice-then true true x f = refl
@@ -45,7 +47,155 @@ unfolding within counted
 within-counted l n cost None = refl
 within-counted l n cost (Some x) = grind (arith, nat_tests)
 
-pub within-deeper : {A : Type 0} (l n : ℕ) (c : Option (Counted A)) → within (suc l) (suc n) (deeper c) ≡ within l n c
+-- ---- tables that are entered
+
+no-level : {A : Type 0} (n : ℕ) (c : Option (Counted A)) → within 0 n (deeper c) ≡ None
 unfolding within deeper
-within-deeper l n None = refl
+no-level n None = refl
+no-level n (Some c) = grind (arith, nat_tests)
+
+one-choice : {A : Type 0} (b : Bool) → let none : Option A = None in none ≡ cond b none none
+one-choice true = refl
+one-choice false = refl
+
+pub within-deeper : {A : Type 0} (l n : ℕ) (c : Option (Counted A)) → within (suc l) n (deeper c) ≡ cond (nat_le 1 n) (within l (n - 1) c) None
+unfolding within deeper
+within-deeper l n None = one-choice (nat_le 1 n)
 within-deeper l n (Some c) = grind (arith, nat_tests)
+
+choice-once : {A B : Type 0} (b : Bool) (x : A) (f : A → Option B) → (cond b (Some x) None then f) ≡ cond b (f x) None
+choice-once true x f = refl
+choice-once false x f = refl
+
+-- a table that is entered is charged, and read with one level less
+enter-is : {A : Type 0} (l n : ℕ) (read : Option Table) (inner : Table → Option (Counted A))
+    → within (suc l) n (enter read inner) ≡ (charge one read n then (λ p. within l p.1 (inner p.0)))
+unfolding within
+enter-is l n None inner = refl
+enter-is l n (Some t) inner = within-deeper l n (inner t) ∙ sym (choice-once (nat_le 1 n) (t, n - 1) (λ p. within l p.1 (inner p.0)))
+
+no-enter : {A : Type 0} (n : ℕ) (read : Option Table) (inner : Table → Option (Counted A)) → within 0 n (enter read inner) ≡ None
+unfolding within
+no-enter n None inner = refl
+no-enter n (Some t) inner = no-level n (inner t)
+
+is_suc : (k l : ℕ) → k + 1 ≡ l → l ≡ suc k
+is_suc k l e = omega arith
+
+pub within-enter : {A : Type 0} (l k n m : ℕ) (read : Option Table) (t : Table) (inner : Table → Option (Counted A))
+    → charge one (reached l read) n ≡ Some (t, m) → k + 1 ≡ l → within l n (enter read inner) ≡ within k m (inner t)
+within-enter zero k n m read t inner h e = absurd cc
+within-enter (suc l) k n m read t inner h e =
+    let same : l ≡ k = omega arith in
+    enter-is l n read inner ∙ ap (λ (r : Option (Table × ℕ)). r then (λ p. within l p.1 (inner p.0))) h ∙ ap (λ (i : ℕ). within i m (inner t)) same
+
+pub within-enter_none : {A : Type 0} (l n : ℕ) (read : Option Table) (inner : Table → Option (Counted A))
+    → charge one (reached l read) n ≡ None → within l n (enter read inner) ≡ None
+within-enter_none zero n read inner h = no-enter n read inner
+within-enter_none (suc l) n read inner h = enter-is l n read inner ∙ ap (λ (r : Option (Table × ℕ)). r then (λ p. within l p.1 (inner p.0))) h
+
+-- the same of a table that may be absent
+abbrev pub kept : {A : Type 0} → A × ℕ → Option (Option A × ℕ)
+kept p = Some (Some p.0, p.1)
+
+some-is : {A : Type 0} (l n : ℕ) (c : Option (Counted A)) → within l n (c >>= (λ x. pure (Some x))) ≡ (within l n c then kept)
+some-is {A = A} l n c = within-bind l n c (λ x. pure (Some x)) ∙ ap (λ (f : A × ℕ → Option (Option A × ℕ)). within l n c then f) (λ i p. within-pure l p.1 (Some p.0) i)
+
+found-is : {A : Type 0} {x y : A} → Some x ≡ Some y → x ≡ y
+found-is h = cc
+
+-- a charge for a table that may be absent is one for a table
+as-table : (b : Bool) (t u : Table) (v m : ℕ) → (let found : Option (Option Table × ℕ) = Some (Some t, v) in cond b found None) ≡ Some (Some u, m)
+    → (let found : Option (Table × ℕ) = Some (t, v) in cond b found None) ≡ Some (u, m)
+as-table true t u v m h = ap (λ p. option_map (λ w. (w, p.1)) p.0) (found-is h)
+as-table false t u v m h = absurd cc
+
+as-none : (b : Bool) (t : Table) (v : ℕ) → (let found : Option (Option Table × ℕ) = Some (Some t, v) in cond b found None) ≡ None
+    → (let found : Option (Table × ℕ) = Some (t, v) in cond b found None) ≡ None
+as-none true t v h = absurd cc
+as-none false t v h = refl
+
+no-table : (b : Bool) (t : Table) (v m : ℕ) → (let found : Option (Option Table × ℕ) = Some (Some t, v) in cond b found None) ≡ Some (None, m) → ⊥
+no-table true t v m h = let e : Some t ≡ None = ap (λ p. p.0) (found-is h) in absurd cc
+no-table false t v m h = absurd cc
+
+charge-absent : (l n : ℕ) → charge (optional_cost one) (reached_optional l (Some None)) n ≡ Some (None, n)
+charge-absent l n = grind (arith, nat_tests)
+
+pub within-enter_optional : {A : Type 0} (l k n m : ℕ) (read : Option (Option Table)) (t : Table) (inner : Table → Option (Counted A))
+    → charge (optional_cost one) (reached_optional l read) n ≡ Some (Some t, m) → k + 1 ≡ l → within l n (enter_optional read inner) ≡ (within k m (inner t) then kept)
+within-enter_optional l k n m None t inner h e = absurd cc
+within-enter_optional l k n m (Some None) t inner h e = let clash : None ≡ Some t = ap (λ p. p.0) (found-is (sym (charge-absent l n) ∙ h)) in absurd cc
+within-enter_optional zero k n m (Some (Some u)) t inner h e = absurd cc
+within-enter_optional (suc l) k n m (Some (Some u)) t inner h e =
+    some-is (suc l) n (enter (Some u) inner) ∙ ap (λ r. r then kept) (within-enter (suc l) k n m (Some u) t inner (as-table (nat_le 1 n) u t (n - 1) m h) e)
+
+pub within-enter_optional_none : {A : Type 0} (l n : ℕ) (read : Option (Option Table)) (inner : Table → Option (Counted A))
+    → charge (optional_cost one) (reached_optional l read) n ≡ None → within l n (enter_optional read inner) ≡ None
+unfolding within
+within-enter_optional_none l n None inner h = refl
+within-enter_optional_none l n (Some None) inner h = let clash = sym (charge-absent l n) ∙ h in absurd cc
+within-enter_optional_none zero n (Some (Some u)) inner h = some-is 0 n (enter (Some u) inner) ∙ ap (λ r. r then kept) (no-enter n (Some u) inner)
+within-enter_optional_none (suc l) n (Some (Some u)) inner h =
+    some-is (suc l) n (enter (Some u) inner) ∙ ap (λ r. r then kept) (within-enter_none (suc l) n (Some u) inner (as-none (nat_le 1 n) u (n - 1) h))
+
+pub within-enter_optional_absent : {A : Type 0} (l n m : ℕ) (read : Option (Option Table)) (inner : Table → Option (Counted A))
+    → charge (optional_cost one) (reached_optional l read) n ≡ Some (None, m) → within l n (enter_optional read inner) ≡ Some (None, m)
+within-enter_optional_absent l n m None inner h = absurd cc
+within-enter_optional_absent {A = A} l n m (Some None) inner h = within-pure l n None ∙ ap (λ p. let left : Option (Option A × ℕ) = Some (None, p.1) in left) (found-is (sym (charge-absent l n) ∙ h))
+within-enter_optional_absent zero n m (Some (Some u)) inner h = absurd cc
+within-enter_optional_absent (suc l) n m (Some (Some u)) inner h = absurd (no-table (nat_le 1 n) u (n - 1) m h)
+
+-- ---- one step after the other
+
+pub within-step : {A B : Type 0} (l n m : ℕ) (c : Option (Counted A)) (f : A → Option (Counted B)) (x : A)
+    → within l n c ≡ Some (x, m) → within l n (c >>= f) ≡ within l m (f x)
+within-step l n m c f x h = within-bind l n c f ∙ ap (λ r. r then (λ p. within l p.1 (f p.0))) h
+
+pub within-stop : {A B : Type 0} (l n : ℕ) (c : Option (Counted A)) (f : A → Option (Counted B)) → within l n c ≡ None → within l n (c >>= f) ≡ None
+within-stop l n c f h = within-bind l n c f ∙ ap (λ r. r then (λ p. within l p.1 (f p.0))) h
+
+-- ---- loops over the elements of a vector
+
+-- what was read before, and what is still read
+abbrev pub with_front : {A : Type 0} → List A → Option (List A × ℕ) → Option (List A × ℕ)
+with_front made walk = walk then (λ p. Some (made ++ p.0, p.1))
+
+regroup : {A : Type 0} (made : List A) (x : A) (walk : Option (List A × ℕ)) → with_front made (walk then (λ p. Some (x ∷ p.0, p.1))) ≡ with_front (made ++ x ∷ []) walk
+regroup made x None = refl
+regroup made x (Some p) = ap (λ xs. Some (xs, p.1)) (simp append_assoc)
+
+each-step : {A : Type 0} (l n m left i : ℕ) (read : ℕ → Option (Counted A)) (x : A) → within l n (read i) ≡ Some (x, m)
+    → within l n (each_from read (suc left) i) ≡ (within l m (each_from read left (i + 1)) then (λ p. Some (x ∷ p.0, p.1)))
+unfolding each_from
+each-step l n m left i read x h =
+    within-step l n m (read i) (λ y. each_from read left (i + 1) >>= (λ ys. pure (y ∷ ys))) x h
+    ∙ within-bind l m (each_from read left (i + 1)) (λ ys. pure (x ∷ ys))
+    ∙ ap (λ f. within l m (each_from read left (i + 1)) then f) (λ j p. within-pure l p.1 (x ∷ p.0) j)
+
+pub loop-starts : {A : Type 0} (walk : Option (List A × ℕ)) → with_front [] walk ≡ walk
+loop-starts None = refl
+loop-starts (Some p) = refl
+
+pub loop-goes_on : {A : Type 0} (l n m count i : ℕ) (read : ℕ → Option (Counted A)) (made : List A) (x : A) (total : Option (List A × ℕ))
+    → i < count → within l n (read i) ≡ Some (x, m) → with_front made (within l n (each_from read (count - i) i)) ≡ total
+    → with_front (made ++ x ∷ []) (within l m (each_from read (count - (i + 1)) (i + 1))) ≡ total
+loop-goes_on l n m count i read made x total lt h so_far =
+    let k : count - i ≡ suc (count - (i + 1)) = omega arith in
+    sym (regroup made x (within l m (each_from read (count - (i + 1)) (i + 1))))
+    ∙ sym (ap (with_front made) (ap (λ j. within l n (each_from read j i)) k ∙ each-step l n m (count - (i + 1)) i read x h))
+    ∙ so_far
+
+pub loop-stops : {A : Type 0} (l n count i : ℕ) (read : ℕ → Option (Counted A)) (made : List A) (total : Option (List A × ℕ))
+    → i < count → within l n (read i) ≡ None → with_front made (within l n (each_from read (count - i) i)) ≡ total → total ≡ None
+unfolding each_from
+loop-stops l n count i read made total lt h so_far =
+    let k : count - i ≡ suc (count - (i + 1)) = omega arith in
+    sym so_far ∙ ap (with_front made) (ap (λ j. within l n (each_from read j i)) k ∙ within-stop l n (read i) (λ y. each_from read (count - (i + 1)) (i + 1) >>= (λ ys. pure (y ∷ ys))) h)
+
+pub loop-ends : {A : Type 0} (l n count i : ℕ) (read : ℕ → Option (Counted A)) (made : List A) (total : Option (List A × ℕ))
+    → count ≤ i → with_front made (within l n (each_from read (count - i) i)) ≡ total → total ≡ Some (made, n)
+unfolding each_from
+loop-ends l n count i read made total le so_far =
+    let k : count - i ≡ 0 = omega arith in
+    sym so_far ∙ ap (with_front made) (ap (λ j. within l n (each_from read j i)) k ∙ within-pure l n []) ∙ ap (λ xs. Some (xs, n)) (append-nil made)
