@@ -4,7 +4,7 @@ use Rattle.std.specs.Prelude.{nat_le}
 use Rattle.std.specs.Option.{option_map}
 use Rattle.std.proofs.lemmas.Bool.Decides.{nat_tests}
 use Rattle.std.proofs.lemmas.List.{append-nil}
-use Rattle.vx_tables.specs.Counted.{Counted, both, ◌>>=◌, pure, counted, free, deeper, within, enter, enter_optional, each_from, one, optional_cost}
+use Rattle.vx_tables.specs.Counted.{Counted, both, ◌>>=◌, pure, counted, free, deeper, within, enter, enter_optional, present, each_from, one, optional_cost}
 use Rattle.vx_tables.specs.Field.{Table, ◌>>=◌ as ◌then◌}
 use Rattle.vx_tables.specs.Reader.{charge, reached, reached_optional}
 
@@ -70,29 +70,22 @@ choice-once false x f = refl
 -- a table that is entered is charged, and read with one level less
 enter-is : {A : Type 0} (l n : ℕ) (read : Option Table) (inner : Table → Option (Counted A))
     → within (suc l) n (enter read inner) ≡ (charge one read n then (λ p. within l p.1 (inner p.0)))
-unfolding within
+unfolding within enter
 enter-is l n None inner = refl
 enter-is l n (Some t) inner = within-deeper l n (inner t) ∙ sym (choice-once (nat_le 1 n) (t, n - 1) (λ p. within l p.1 (inner p.0)))
 
 no-enter : {A : Type 0} (n : ℕ) (read : Option Table) (inner : Table → Option (Counted A)) → within 0 n (enter read inner) ≡ None
-unfolding within
+unfolding within enter
 no-enter n None inner = refl
 no-enter n (Some t) inner = no-level n (inner t)
 
-is_suc : (k l : ℕ) → k + 1 ≡ l → l ≡ suc k
-is_suc k l e = omega arith
+one_less : (l : ℕ) → l ≡ suc l - 1
+one_less l = omega arith
 
-pub within-enter : {A : Type 0} (l k n m : ℕ) (read : Option Table) (t : Table) (inner : Table → Option (Counted A))
-    → charge one (reached l read) n ≡ Some (t, m) → k + 1 ≡ l → within l n (enter read inner) ≡ within k m (inner t)
-within-enter zero k n m read t inner h e = absurd cc
-within-enter (suc l) k n m read t inner h e =
-    let same : l ≡ k = omega arith in
-    enter-is l n read inner ∙ ap (λ (r : Option (Table × ℕ)). r then (λ p. within l p.1 (inner p.0))) h ∙ ap (λ (i : ℕ). within i m (inner t)) same
-
-pub within-enter_none : {A : Type 0} (l n : ℕ) (read : Option Table) (inner : Table → Option (Counted A))
-    → charge one (reached l read) n ≡ None → within l n (enter read inner) ≡ None
-within-enter_none zero n read inner h = no-enter n read inner
-within-enter_none (suc l) n read inner h = enter-is l n read inner ∙ ap (λ (r : Option (Table × ℕ)). r then (λ p. within l p.1 (inner p.0))) h
+pub within-enter : {A : Type 0} (l n : ℕ) (read : Option Table) (inner : Table → Option (Counted A))
+    → within l n (enter read inner) ≡ (charge one (reached l read) n then (λ p. within (l - 1) p.1 (inner p.0)))
+within-enter zero n read inner = no-enter n read inner
+within-enter (suc l) n read inner = enter-is l n read inner ∙ ap (λ (k : ℕ). charge one read n then (λ p. within k p.1 (inner p.0))) (one_less l)
 
 -- the same of a table that may be absent
 abbrev pub kept : {A : Type 0} → A × ℕ → Option (Option A × ℕ)
@@ -101,50 +94,28 @@ kept p = Some (Some p.0, p.1)
 some-is : {A : Type 0} (l n : ℕ) (c : Option (Counted A)) → within l n (c >>= (λ x. pure (Some x))) ≡ (within l n c then kept)
 some-is {A = A} l n c = within-bind l n c (λ x. pure (Some x)) ∙ ap (λ (f : A × ℕ → Option (Option A × ℕ)). within l n c then f) (λ i p. within-pure l p.1 (Some p.0) i)
 
-found-is : {A : Type 0} {x y : A} → Some x ≡ Some y → x ≡ y
-found-is h = cc
-
--- a charge for a table that may be absent is one for a table
-as-table : (b : Bool) (t u : Table) (v m : ℕ) → (let found : Option (Option Table × ℕ) = Some (Some t, v) in cond b found None) ≡ Some (Some u, m)
-    → (let found : Option (Table × ℕ) = Some (t, v) in cond b found None) ≡ Some (u, m)
-as-table true t u v m h = ap (λ p. option_map (λ w. (w, p.1)) p.0) (found-is h)
-as-table false t u v m h = absurd cc
-
-as-none : (b : Bool) (t : Table) (v : ℕ) → (let found : Option (Option Table × ℕ) = Some (Some t, v) in cond b found None) ≡ None
-    → (let found : Option (Table × ℕ) = Some (t, v) in cond b found None) ≡ None
-as-none true t v h = absurd cc
-as-none false t v h = refl
-
-no-table : (b : Bool) (t : Table) (v m : ℕ) → (let found : Option (Option Table × ℕ) = Some (Some t, v) in cond b found None) ≡ Some (None, m) → ⊥
-no-table true t v m h = let e : Some t ≡ None = ap (λ p. p.0) (found-is h) in absurd cc
-no-table false t v m h = absurd cc
+-- what is read inside a table that may be absent, after the charge
+abbrev pub inside : {A : Type 0} → ℕ → (Table → Option (Counted A)) → Option Table × ℕ → Option (Option A × ℕ)
+inside l inner (None, n) = Some (None, n)
+inside l inner (Some t, n) = within (l - 1) n (inner t) then kept
 
 charge-absent : (l n : ℕ) → charge (optional_cost one) (reached_optional l (Some None)) n ≡ Some (None, n)
 charge-absent l n = grind (arith, nat_tests)
 
-pub within-enter_optional : {A : Type 0} (l k n m : ℕ) (read : Option (Option Table)) (t : Table) (inner : Table → Option (Counted A))
-    → charge (optional_cost one) (reached_optional l read) n ≡ Some (Some t, m) → k + 1 ≡ l → within l n (enter_optional read inner) ≡ (within k m (inner t) then kept)
-within-enter_optional l k n m None t inner h e = absurd cc
-within-enter_optional l k n m (Some None) t inner h e = let clash : None ≡ Some t = ap (λ p. p.0) (found-is (sym (charge-absent l n) ∙ h)) in absurd cc
-within-enter_optional zero k n m (Some (Some u)) t inner h e = absurd cc
-within-enter_optional (suc l) k n m (Some (Some u)) t inner h e =
-    some-is (suc l) n (enter (Some u) inner) ∙ ap (λ r. r then kept) (within-enter (suc l) k n m (Some u) t inner (as-table (nat_le 1 n) u t (n - 1) m h) e)
+-- a charge for a table that may be absent is one for a table
+charge-there : {A : Type 0} (b : Bool) (l n : ℕ) (t : Table) (inner : Table → Option (Counted A)) → let one_table : Option (Table × ℕ) = Some (t, n) in let maybe : Option (Option Table × ℕ) = Some (Some t, n) in
+    (cond b one_table None then (λ p. within (l - 1) p.1 (inner p.0)) then kept) ≡ (cond b maybe None then inside l inner)
+charge-there true l n t inner = refl
+charge-there false l n t inner = refl
 
-pub within-enter_optional_none : {A : Type 0} (l n : ℕ) (read : Option (Option Table)) (inner : Table → Option (Counted A))
-    → charge (optional_cost one) (reached_optional l read) n ≡ None → within l n (enter_optional read inner) ≡ None
-unfolding within
-within-enter_optional_none l n None inner h = refl
-within-enter_optional_none l n (Some None) inner h = let clash = sym (charge-absent l n) ∙ h in absurd cc
-within-enter_optional_none zero n (Some (Some u)) inner h = some-is 0 n (enter (Some u) inner) ∙ ap (λ r. r then kept) (no-enter n (Some u) inner)
-within-enter_optional_none (suc l) n (Some (Some u)) inner h =
-    some-is (suc l) n (enter (Some u) inner) ∙ ap (λ r. r then kept) (within-enter_none (suc l) n (Some u) inner (as-none (nat_le 1 n) u (n - 1) h))
-
-pub within-enter_optional_absent : {A : Type 0} (l n m : ℕ) (read : Option (Option Table)) (inner : Table → Option (Counted A))
-    → charge (optional_cost one) (reached_optional l read) n ≡ Some (None, m) → within l n (enter_optional read inner) ≡ Some (None, m)
-within-enter_optional_absent l n m None inner h = absurd cc
-within-enter_optional_absent {A = A} l n m (Some None) inner h = within-pure l n None ∙ ap (λ p. let left : Option (Option A × ℕ) = Some (None, p.1) in left) (found-is (sym (charge-absent l n) ∙ h))
-within-enter_optional_absent zero n m (Some (Some u)) inner h = absurd cc
-within-enter_optional_absent (suc l) n m (Some (Some u)) inner h = absurd (no-table (nat_le 1 n) u (n - 1) m h)
+pub within-enter_optional : {A : Type 0} (l n : ℕ) (read : Option (Option Table)) (inner : Table → Option (Counted A))
+    → within l n (enter_optional read inner) ≡ (charge (optional_cost one) (reached_optional l read) n then inside l inner)
+unfolding within enter enter_optional
+within-enter_optional l n None inner = refl
+within-enter_optional l n (Some None) inner = within-pure l n None ∙ sym (ap (λ r. r then inside l inner) (charge-absent l n))
+within-enter_optional zero n (Some (Some t)) inner = some-is 0 n (enter (Some t) inner) ∙ ap (λ r. r then kept) (no-enter n (Some t) inner)
+within-enter_optional (suc l) n (Some (Some t)) inner =
+    some-is (suc l) n (enter (Some t) inner) ∙ ap (λ r. r then kept) (within-enter (suc l) n (Some t) inner) ∙ charge-there (nat_le 1 n) (suc l) (n - 1) t inner
 
 -- ---- one step after the other
 
@@ -199,3 +170,16 @@ unfolding each_from
 loop-ends l n count i read made total le so_far =
     let k : count - i ≡ 0 = omega arith in
     sym so_far ∙ ap (with_front made) (ap (λ j. within l n (each_from read j i)) k ∙ within-pure l n []) ∙ ap (λ xs. Some (xs, n)) (append-nil made)
+
+pub within-free : {A : Type 0} (l n : ℕ) (r : Option A) → within l n (free r) ≡ option_map (λ x. (x, n)) r
+unfolding free
+within-free l n None = within-counted l n (λ _. 0) None
+within-free l n (Some x) = within-counted l n (λ _. 0) (Some x) ∙ (grind (arith, nat_tests))
+
+pub present-is : {A : Type 0} (l n : ℕ) (o : Option A) → within l n (present o) ≡ option_map (λ x. (x, n)) o
+unfolding present within
+present-is l n None = refl
+present-is l n (Some x) = within-pure l n x
+
+-- the laws by which a walk is read step by step
+pub ruleset walk_steps = (within-bind, within-pure, within-counted, within-free, present-is, within-enter, within-enter_optional)

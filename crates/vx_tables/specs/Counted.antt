@@ -61,18 +61,18 @@ optional_cost cost (Some x) = cost x
 -- ---- tables that are entered
 
 -- what is read inside a table
-abbrev pub enter : {A : Type 0} → Option Table → (Table → Option (Counted A)) → Option (Counted A)
+unfoldable pub enter : {A : Type 0} → Option Table → (Table → Option (Counted A)) → Option (Counted A)
 enter None inner = None
 enter (Some t) inner = deeper (inner t)
 
 -- what is read inside a table, where there is one
-abbrev pub enter_optional : {A : Type 0} → Option (Option Table) → (Table → Option (Counted A)) → Option (Counted (Option A))
+unfoldable pub enter_optional : {A : Type 0} → Option (Option Table) → (Table → Option (Counted A)) → Option (Counted (Option A))
 enter_optional None inner = None
 enter_optional (Some None) inner = pure None
 enter_optional (Some (Some t)) inner = deeper (inner t) >>= (λ x. pure (Some x))
 
 -- what must be there
-abbrev pub present : {A : Type 0} → Option A → Option (Counted A)
+unfoldable pub present : {A : Type 0} → Option A → Option (Counted A)
 present None = None
 present (Some x) = pure x
 
@@ -87,15 +87,15 @@ each_from read (suc left) i = do
   pure (x ∷ xs)
 
 -- what is read inside each table of a vector
-abbrev pub each_table : {A : Type 0} → List ℕ → (Table → Option (Counted A)) → Vector → Option (Counted (List A))
+unfoldable pub each_table : {A : Type 0} → List ℕ → (Table → Option (Counted A)) → Vector → Option (Counted (List A))
 each_table b inner v = each_from (λ i. enter (table_of_vector b v i) inner) v.count 0
 
 -- the texts of a vector
-abbrev pub each_text : List ℕ → Vector → Option (Counted (List (List ℕ)))
+unfoldable pub each_text : List ℕ → Vector → Option (Counted (List (List ℕ)))
 each_text b v = each_from (λ i. counted text_cost (text_of_vector b v i)) v.count 0
 
 -- a vector that is absent is empty
-abbrev pub or_empty : {A : Type 0} → (Vector → Option (Counted (List A))) → Option Vector → Option (Counted (List A))
+unfoldable pub or_empty : {A : Type 0} → (Vector → Option (Counted (List A))) → Option Vector → Option (Counted (List A))
 or_empty read None = pure []
 or_empty read (Some v) = read v
 

@@ -1,4 +1,4 @@
-ghost use Rattle.std.specs.Prelude.{◌≡◌, ◌+◌, ◌≤◌, OnOk, IfOk, IfSome, length, List, ℕ};
+ghost use Rattle.std.specs.Prelude.{◌≡◌, ◌-◌, ◌≤◌, OnOk, IfOk, IfSome, length, List, ℕ};
 ghost use Rattle.std.specs.Result.{result_ok};
 ghost use Rattle.std.specs.Option.{option_map, option_copied};
 ghost use Rattle.std.specs.Int.{w8, w16, w32, w64};
@@ -73,7 +73,7 @@ impl<'a> TableReader<'a> {
     pub fn root(bytes: &'a [u8], visits: &mut Visits) -> Result<TableReader<'a>, BadTable>
         ensures value { taken (λ r. r.table) result visits.new ≡ charge one (root_table bytes.now) visits.old }
         ensures bytes { IfOk result (λ r. r.bytes ≡ bytes.now) }
-        ensures levels { IfOk result (λ r. r.levels + 1 ≡ most_levels) }
+        ensures levels { IfOk result (λ r. r.levels ≡ most_levels - 1) }
     {
         let table = table_from(bytes, target_from(bytes, 0)?, MOST_LEVELS - 1)?;
         visits.charge(1)?;
