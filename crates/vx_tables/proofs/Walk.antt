@@ -117,15 +117,6 @@ within-enter_optional zero n (Some (Some t)) inner = some-is 0 n (enter (Some t)
 within-enter_optional (suc l) n (Some (Some t)) inner =
     some-is (suc l) n (enter (Some t) inner) ∙ ap (λ r. r then kept) (within-enter (suc l) n (Some t) inner) ∙ charge-there (nat_le 1 n) (suc l) (n - 1) t inner
 
--- ---- one step after the other
-
-pub within-step : {A B : Type 0} (l n m : ℕ) (c : Option (Counted A)) (f : A → Option (Counted B)) (x : A)
-    → within l n c ≡ Some (x, m) → within l n (c >>= f) ≡ within l m (f x)
-within-step l n m c f x h = within-bind l n c f ∙ ap (λ r. r then (λ p. within l p.1 (f p.0))) h
-
-pub within-stop : {A B : Type 0} (l n : ℕ) (c : Option (Counted A)) (f : A → Option (Counted B)) → within l n c ≡ None → within l n (c >>= f) ≡ None
-within-stop l n c f h = within-bind l n c f ∙ ap (λ r. r then (λ p. within l p.1 (f p.0))) h
-
 -- ---- loops over the elements of a vector
 
 -- what was read before, and what is still read
@@ -136,40 +127,38 @@ regroup : {A : Type 0} (made : List A) (x : A) (walk : Option (List A × ℕ)) �
 regroup made x None = refl
 regroup made x (Some p) = ap (λ xs. Some (xs, p.1)) (simp append_assoc)
 
-each-step : {A : Type 0} (l n m left i : ℕ) (read : ℕ → Option (Counted A)) (x : A) → within l n (read i) ≡ Some (x, m)
-    → within l n (each_from read (suc left) i) ≡ (within l m (each_from read left (i + 1)) then (λ p. Some (x ∷ p.0, p.1)))
-unfolding each_from
-each-step l n m left i read x h =
-    within-step l n m (read i) (λ y. each_from read left (i + 1) >>= (λ ys. pure (y ∷ ys))) x h
-    ∙ within-bind l m (each_from read left (i + 1)) (λ ys. pure (x ∷ ys))
-    ∙ ap (λ f. within l m (each_from read left (i + 1)) then f) (λ j p. within-pure l p.1 (x ∷ p.0) j)
+-- the walk over a vector that goes on at an element, after those that were made
+unfoldable pub walk_from : {A : Type 0} → (ℕ → Option (Counted A)) → ℕ → ℕ → ℕ → ℕ → List A → Option (List A × ℕ)
+walk_from read count l n i made = with_front made (within l n (each_from read (count - i) i))
 
-pub loop-starts : {A : Type 0} (walk : Option (List A × ℕ)) → with_front [] walk ≡ walk
-loop-starts None = refl
-loop-starts (Some p) = refl
+pub walk_from-start : {A : Type 0} (read : ℕ → Option (Counted A)) (count l n : ℕ) → walk_from read count l n 0 [] ≡ within l n (each_from read count 0)
+unfolding walk_from
+walk_from-start read count l n =
+    let all : count - 0 ≡ count = omega arith in
+    ap (λ k. with_front [] (within l n (each_from read k 0))) all ∙ nothing (within l n (each_from read count 0))
+  where
+    nothing : {A : Type 0} (walk : Option (List A × ℕ)) → with_front [] walk ≡ walk
+    nothing None = refl
+    nothing (Some p) = refl
 
-pub loop-goes_on : {A : Type 0} (l n m count i : ℕ) (read : ℕ → Option (Counted A)) (made : List A) (x : A) (total : Option (List A × ℕ))
-    → i < count → within l n (read i) ≡ Some (x, m) → with_front made (within l n (each_from read (count - i) i)) ≡ total
-    → with_front (made ++ x ∷ []) (within l m (each_from read (count - (i + 1)) (i + 1))) ≡ total
-loop-goes_on l n m count i read made x total lt h so_far =
+pub walk_from-next : {A : Type 0} (read : ℕ → Option (Counted A)) (count l n i : ℕ) (made : List A)
+    → i < count → walk_from read count l n i made ≡ (within l n (read i) then (λ p. walk_from read count l p.1 (i + 1) (made ++ p.0 ∷ [])))
+unfolding walk_from each_from
+walk_from-next {A = A} read count l n i made lt =
     let k : count - i ≡ suc (count - (i + 1)) = omega arith in
-    sym (regroup made x (within l m (each_from read (count - (i + 1)) (i + 1))))
-    ∙ sym (ap (with_front made) (ap (λ j. within l n (each_from read j i)) k ∙ each-step l n m (count - (i + 1)) i read x h))
-    ∙ so_far
+    ap (λ j. with_front made (within l n (each_from read j i))) k
+    ∙ ap (with_front made) (within-bind l n (read i) (λ x. each_from read (count - (i + 1)) (i + 1) >>= (λ xs. pure (x ∷ xs))))
+    ∙ each (within l n (read i))
+  where
+    each : (o : Option (A × ℕ)) → with_front made (o then (λ p. within l p.1 (each_from read (count - (i + 1)) (i + 1) >>= (λ xs. pure (p.0 ∷ xs))))) ≡ (o then (λ p. with_front (made ++ p.0 ∷ []) (within l p.1 (each_from read (count - (i + 1)) (i + 1)))))
+    each None = refl
+    each (Some p) = ap (with_front made) (within-bind l p.1 (each_from read (count - (i + 1)) (i + 1)) (λ xs. pure (p.0 ∷ xs)) ∙ ap (λ f. within l p.1 (each_from read (count - (i + 1)) (i + 1)) then f) (λ j q. within-pure l q.1 (p.0 ∷ q.0) j)) ∙ regroup made p.0 (within l p.1 (each_from read (count - (i + 1)) (i + 1)))
 
-pub loop-stops : {A : Type 0} (l n count i : ℕ) (read : ℕ → Option (Counted A)) (made : List A) (total : Option (List A × ℕ))
-    → i < count → within l n (read i) ≡ None → with_front made (within l n (each_from read (count - i) i)) ≡ total → total ≡ None
-unfolding each_from
-loop-stops l n count i read made total lt h so_far =
-    let k : count - i ≡ suc (count - (i + 1)) = omega arith in
-    sym so_far ∙ ap (with_front made) (ap (λ j. within l n (each_from read j i)) k ∙ within-stop l n (read i) (λ y. each_from read (count - (i + 1)) (i + 1) >>= (λ ys. pure (y ∷ ys))) h)
-
-pub loop-ends : {A : Type 0} (l n count i : ℕ) (read : ℕ → Option (Counted A)) (made : List A) (total : Option (List A × ℕ))
-    → count ≤ i → with_front made (within l n (each_from read (count - i) i)) ≡ total → total ≡ Some (made, n)
-unfolding each_from
-loop-ends l n count i read made total le so_far =
+pub walk_from-end : {A : Type 0} (read : ℕ → Option (Counted A)) (count l n i : ℕ) (made : List A) → count ≤ i → walk_from read count l n i made ≡ Some (made, n)
+unfolding walk_from each_from
+walk_from-end read count l n i made le =
     let k : count - i ≡ 0 = omega arith in
-    sym so_far ∙ ap (with_front made) (ap (λ j. within l n (each_from read j i)) k ∙ within-pure l n []) ∙ ap (λ xs. Some (xs, n)) (append-nil made)
+    ap (λ j. with_front made (within l n (each_from read j i))) k ∙ ap (with_front made) (within-pure l n []) ∙ ap (λ xs. Some (xs, n)) (append-nil made)
 
 pub within-free : {A : Type 0} (l n : ℕ) (r : Option A) → within l n (free r) ≡ option_map (λ x. (x, n)) r
 unfolding free
@@ -182,4 +171,4 @@ present-is l n None = refl
 present-is l n (Some x) = within-pure l n x
 
 -- the laws by which a walk is read step by step
-pub ruleset walk_steps = (within-bind, within-pure, within-counted, within-free, present-is, within-enter, within-enter_optional)
+pub ruleset walk_steps = (within-bind, within-pure, within-counted, within-free, present-is, within-enter, within-enter_optional, walk_from-start, walk_from-next, walk_from-end)
