@@ -3,7 +3,7 @@
 use Rattle.std.specs.Prelude.{ℕ, zero, suc, ◌+◌, ◌-◌, ◌*◌, ◌/◌, nat_le, max, if◌then◌else◌, List, [], ◌∷◌, length, Option, Some, None}
 use Rattle.vx_tables.specs.declared.elements.Elements.{Elements}
 use Rattle.vx_tables.specs.declared.elements.Elements.TheVariants.{Numbers, Offsets, Segments}
-use Rattle.vx_tables.specs.Field.{Table, Vector}
+use Rattle.vx_tables.specs.Field.{Table, Vector, text_of_vector, table_of_vector}
 
 -- a value, the visits that it took, and how many tables lie one in the other
 pub record Counted (A : Type 0) : Type 0 where
@@ -61,15 +61,22 @@ optional_cost cost (Some x) = cost x
 -- ---- tables that are entered
 
 -- what is read inside a table
-abbrev pub enter : {A : Type 0} → Option Table → (Table → Option (Counted A)) → Option (Counted A)
+unfoldable pub enter : {A : Type 0} → Option Table → (Table → Option (Counted A)) → Option (Counted A)
 enter None inner = None
 enter (Some t) inner = deeper (inner t)
 
 -- what is read inside a table, where there is one
-abbrev pub enter_optional : {A : Type 0} → Option (Option Table) → (Table → Option (Counted A)) → Option (Counted (Option A))
+unfoldable pub enter_optional : {A : Type 0} → Option (Option Table) → (Table → Option (Counted A)) → Option (Counted (Option A))
 enter_optional None inner = None
 enter_optional (Some None) inner = pure None
 enter_optional (Some (Some t)) inner = deeper (inner t) >>= (λ x. pure (Some x))
+
+-- what must be there
+unfoldable pub present : {A : Type 0} → Option A → Option (Counted A)
+present None = None
+present (Some x) = pure x
+
+-- ---- vectors of offsets
 
 -- the next so many elements, from one on
 unfoldable pub each_from : {A : Type 0} → (ℕ → Option (Counted A)) → ℕ → ℕ → Option (Counted (List A))
@@ -78,6 +85,19 @@ each_from read (suc left) i = do
   x ← read i
   xs ← each_from read left (i + 1)
   pure (x ∷ xs)
+
+-- what is read inside each table of a vector
+unfoldable pub each_table : {A : Type 0} → List ℕ → (Table → Option (Counted A)) → Vector → Option (Counted (List A))
+each_table b inner v = each_from (λ i. enter (table_of_vector b v i) inner) v.count 0
+
+-- the texts of a vector
+unfoldable pub each_text : List ℕ → Vector → Option (Counted (List (List ℕ)))
+each_text b v = each_from (λ i. counted text_cost (text_of_vector b v i)) v.count 0
+
+-- a vector that is absent is empty
+unfoldable pub or_empty : {A : Type 0} → (Vector → Option (Counted (List A))) → Option Vector → Option (Counted (List A))
+or_empty read None = pure []
+or_empty read (Some v) = read v
 
 -- ---- limits
 

@@ -1,9 +1,9 @@
-ghost use Rattle.std.specs.Prelude.{◌≡◌, ◌+◌, ◌≤◌, OnOk, IfOk, IfSome, length, List, ℕ};
+ghost use Rattle.std.specs.Prelude.{◌≡◌, ◌-◌, ◌≤◌, OnOk, IfOk, IfSome, length, List, ℕ};
 ghost use Rattle.std.specs.Result.{result_ok};
 ghost use Rattle.std.specs.Option.{option_map, option_copied};
 ghost use Rattle.std.specs.Int.{w8, w16, w32, w64};
 ghost use Rattle.vx_tables.specs.Field.{target_field, table_at, root as root_table, slot as slot_place, entry_place, field, text_field, table_field, vector_field};
-ghost use Rattle.vx_tables.specs.Counted.{one, text_cost, vector_cost, optional_cost};
+ghost use Rattle.vx_tables.specs.Counted.{most_levels, one, text_cost, vector_cost, optional_cost};
 ghost use Rattle.vx_tables.specs.Reader.{InTable, IsBelow, IsVectorOf, reached_optional, charge, taken};
 
 use crate::bad_table::BadTable;
@@ -14,6 +14,9 @@ use crate::wire::{
     backward_from, forward_from, target_from, text_from, u8_from, u16_from, u32_from, u64_from,
 };
 use std::marker::Model;
+
+/// How many tables may lie one in the other, the root among them.
+const MOST_LEVELS: usize = 64;
 
 /// A table of a root.
 #[derive(Debug, Drop)]
@@ -70,9 +73,9 @@ impl<'a> TableReader<'a> {
     pub fn root(bytes: &'a [u8], visits: &mut Visits) -> Result<TableReader<'a>, BadTable>
         ensures value { taken (λ r. r.table) result visits.new ≡ charge one (root_table bytes.now) visits.old }
         ensures bytes { IfOk result (λ r. r.bytes ≡ bytes.now) }
-        ensures levels { IfOk result (λ r. r.levels ≡ 63) }
+        ensures levels { IfOk result (λ r. r.levels ≡ most_levels - 1) }
     {
-        let table = table_from(bytes, target_from(bytes, 0)?, 63)?;
+        let table = table_from(bytes, target_from(bytes, 0)?, MOST_LEVELS - 1)?;
         visits.charge(1)?;
         Ok(table)
     }

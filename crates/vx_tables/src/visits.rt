@@ -4,6 +4,9 @@ ghost use Rattle.vx_tables.specs.Counted.{most_visits};
 use crate::bad_table::BadTable;
 use std::marker::Model;
 
+/// How many visits one root may take.
+const MOST_VISITS: u64 = 1_000_000;
+
 /// How many visits of one table root are left.
 #[derive(Debug, Drop)]
 pub struct Visits {
@@ -23,7 +26,7 @@ impl Visits {
     pub fn new() -> Visits
         ensures { result ≡ most_visits }
     {
-        Visits { left: 1_000_000 }
+        Visits { left: MOST_VISITS }
     }
 
     /// Takes as many visits as the cost, where they are left.
