@@ -160,10 +160,11 @@ dtype_checks bytes = do
 -- the checks on the layout and the segment that a footer's table names, of a file of this size
 unfoldable pub layout_and_segment : FooterTable → ℕ → List ℕ → Result (LayoutTable × SegmentSpec) OpenError
 layout_and_segment f size layout_bytes = do
-  _ ← Unsupported unless is_plain f.segment
+  s ← Unsupported lacking f.segment
+  _ ← Unsupported unless is_plain s
   l ← layout_checks f layout_bytes
   _ ← Unsupported unless is_small f
-  segment ← segment_checks f.segment size
+  segment ← segment_checks s size
   Ok (l, segment)
 
 -- the checks on the footer's table and the layout's, of a file of this size

@@ -9,6 +9,7 @@ mod opening;
 mod postscript;
 mod ptype;
 mod table;
+mod table_error;
 mod table_reading;
 
 pub use error::{OpenError, Which};

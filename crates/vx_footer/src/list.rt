@@ -1,8 +1,8 @@
 //! Lists inside a footer.
-ghost use Rattle.std.specs.Prelude.{◌≡◌, ◌++◌, ◌∷◌, [], ◌<◌, ◌^◌, length, map, slice_get, OnOk, OnErr, IfSome, IsSome, ◌↔◌, string_bytes};
+ghost use Rattle.std.specs.Prelude.{◌≡◌, ◌++◌, ◌∷◌, [], ◌<◌, ◌^◌, length, map, slice_get, is_ok, if◌then◌else◌, string_bytes};
 ghost use Rattle.std.specs.Option.{option_map};
 
-use std::alloc::{AllocError, Global};
+use std::alloc::{AllocFailed, Global};
 use std::marker::Model;
 use vx_base::SegmentSpec;
 
@@ -78,13 +78,10 @@ impl TextList {
         }
     }
 
-    /// Adds a copy of a text at the end. Without memory nothing changes.
-    pub fn push(&mut self, alloc: Global, text: &str) -> Result<(), AllocError>
-        ensures ok { OnOk result (self.new ≡ self.old ++ text.now ∷ []) }
-        ensures err { OnErr result (self.new ≡ self.old) }
+    /// Adds a text at the end. Without memory nothing changes.
+    pub fn push(&mut self, text: String) -> Result<(), AllocFailed<String>>
+        ensures { self.new ≡ (if is_ok result then self.old ++ string_bytes text ∷ [] else self.old) }
     {
-        let copy = String::from_str(alloc, text)?;
-        self.texts.push(copy)?;
-        Ok(())
+        self.texts.push(text)
     }
 }

@@ -6,6 +6,7 @@ ghost use Rattle.vx_footer.specs.Opening.{ptype_of_number, ptype_of, is_flat as 
 use crate::marker::postscript_of;
 use crate::postscript::tables_of;
 use crate::table::{DTypeTable, FooterTable, LayoutTable, Locator, Tables};
+use crate::table_error::TableError;
 use crate::table_reading::{read_dtype, read_footer, read_layout};
 use crate::{Footer, OpenError, PType, SegmentSpecs, Which};
 use std::alloc::Global;
@@ -150,14 +151,17 @@ fn layout_and_segment_of(
 ) -> Result<(LayoutTable, SegmentSpec), OpenError>
     ensures { Gives (λ parts. parts) result (layout_and_segment footer.now size layout_bytes.now) }
 {
-    if !footer.segment.is_plain() {
+    let Some(segment) = footer.segment else {
+        return Err(OpenError::Unsupported);
+    };
+    if !segment.is_plain() {
         return Err(OpenError::Unsupported);
     }
     let layout = layout_in(footer, layout_bytes)?;
     if !is_small(footer) {
         return Err(OpenError::Unsupported);
     }
-    let segment = segment_of(footer.segment, size)?;
+    let segment = segment_of(segment, size)?;
     Ok((layout, segment))
 }
 
@@ -172,7 +176,11 @@ fn footer_in(
 ) -> Result<Footer, OpenError>
     ensures { Gives (λ footer. footer) result (footer_checks ptype size footer_bytes.now layout_bytes.now) }
 {
-    let footer = read_footer(alloc, footer_bytes)?;
+    let footer = match read_footer(alloc, footer_bytes) {
+        Ok(footer) => footer,
+        Err(TableError::BadTable) => return Err(OpenError::BadTable(Which::Footer)),
+        Err(TableError::OutOfMemory) => return Err(OpenError::OutOfMemory),
+    };
     let (layout, segment) = layout_and_segment_of(&footer, size, layout_bytes)?;
     Ok(Footer {
         row_count: layout.row_count,

@@ -47,11 +47,11 @@ pub struct LayoutTable {
     pub segment: u32,
 }
 
-/// The ids of encodings, how many segments there are, and the first of them.
+/// The ids of encodings, how many segments there are, and the first of them, if any.
 #[derive(Drop)]
 pub struct FooterTable {
     pub arrays: TextList,
     pub layouts: TextList,
     pub segments: usize,
-    pub segment: Locator,
+    pub segment: Option<Locator>,
 }
