@@ -2,7 +2,8 @@
 use Rattle.std.specs.Prelude.{◌≡◌, ℕ, ◌-◌, ◌++◌, List, [], ◌∷◌, map, Option, Some, None, Result, Ok, Err}
 use Rattle.std.specs.List.{flat_map}
 use Rattle.std.specs.Option.{option_map}
-use Rattle.vx_base.specs.Asking.{Asked, Log}
+use Rattle.vx_base.specs.declared.answer.Asked.{Asked}
+use Rattle.vx_base.specs.Asking.{Log}
 use Rattle.vx_base.specs.Buffer.{Buffer}
 use Rattle.vx_base.specs.declared.fault.FaultKind.{FaultKind}
 use Rattle.vx_file.specs.declared.fault.Fault.{Fault}

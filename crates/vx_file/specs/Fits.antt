@@ -26,7 +26,7 @@ slice_of file s = record { bytes = bytes_at file s.offset s.length; alignment = 
 
 -- a segment is covered where it begins at or after the tail's start
 abbrev pub covers : World → ℕ → Bool
-covers w segment = option_map_or (λ s. nat_le w.start s.offset) false (slice_get w.table segment)
+covers w segment = option_map_or (λ s. nat_le w.start s.offset) (slice_get w.table segment) false
 
 -- the place of the segment that a number asks for
 abbrev pub spec_of : World → List Moment → ℕ → Option SegmentSpec

@@ -1,12 +1,7 @@
 //! Asks a reader for one range.
-ghost use Rattle.std.specs.Prelude.{◌≡◌, ◌≤◌, ℕ, ◌++◌, ◌∷◌, [], List, length, find, position, Option, Some, None, IfOk, IfErr, OnErr, IfSome};
-ghost use Rattle.std.specs.Option.{option_map};
-ghost use Rattle.vx_base.specs.Buffer.{bytes_at};
-ghost use Rattle.vx_base.specs.Asking.{names as is_named, same_range, answer_to, mark_of_answer, GrewOrStayed, IsTrueTo};
-ghost use Rattle.vx_base.specs.Counts.{Rises};
-ghost use Rattle.vx_file.specs.Asking.{kind_of, IsAnswered};
-ghost use Rattle.vx_file.specs.Asked.{Grew, mark_of_read};
-ghost use Rattle.vx_file.specs.declared.fault.Place.TheVariants.{Range};
+ghost use Rattle.std.specs.Prelude.{◌≡◌, ◌≤◌, ◌∷◌, [], position, IfOk, OnErr};
+ghost use Rattle.vx_base.specs.Asking.{names as is_named, same_range, answer_to, mark_of_answer, GrewOrStayed};
+ghost use Rattle.vx_file.specs.Asking.{kind_of, IsAnswered, read_of, ReadsRange};
 
 use crate::{Fault, Place};
 use std::alloc::{AllocError, Global};
@@ -51,4 +46,40 @@ fn bytes_of_answer(length: usize, answer: Option<RangeAnswer>) -> Result<ByteBuf
             }
         },
     }
+}
+
+fn read_of_answer(range: &ReadAtRequest, bytes: Result<ByteBuffer, FaultKind>) -> Result<ByteBuffer, Fault>
+    ensures { result ≡ read_of range.now bytes }
+{
+    match bytes {
+        Ok(buffer) => Ok(buffer),
+        Err(kind) => Err(Fault {
+            kind,
+            place: Place::Range {
+                offset: range.offset,
+                length: range.length,
+            },
+        }),
+    }
+}
+
+/// The bytes of one range, or the fault that its answer shows. Only memory refuses.
+pub(crate) fn ask<R: Reader>(
+    alloc: Global,
+    reader: &mut R,
+    range: ReadAtRequest,
+) -> Result<Result<ByteBuffer, Fault>, AllocError>
+    ensures read { IfOk result (ReadsRange range
+        (record { bytes = R.bytes reader.old; log = R.log reader.old; faults = R.faults reader.old; never_fails = R.never_fails reader.old })
+        (record { bytes = R.bytes reader.new; log = R.log reader.new; faults = R.faults reader.new; never_fails = R.never_fails reader.new })) }
+    ensures memory { OnErr result (GrewOrStayed (range ∷ []) (R.log reader.old) (R.log reader.new)) }
+    ensures never_falls { R.faults reader.old ≤ R.faults reader.new }
+    ensures same_bytes { R.bytes reader.new ≡ R.bytes reader.old }
+    ensures same_soundness { R.never_fails reader.new ≡ R.never_fails reader.old }
+{
+    let most = reader.concurrency();
+    prove!(most >= 1);
+    let answers = reader.read_ranges(alloc, &[range])?;
+    let answer = first_answer(&range, answers);
+    Ok(read_of_answer(&range, bytes_of_answer(range.length, answer)))
 }

@@ -6,6 +6,7 @@ mod fault;
 mod queue;
 mod reply;
 mod request;
+mod session;
 
 mod span;
 mod step;

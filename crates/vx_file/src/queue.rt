@@ -1,5 +1,5 @@
 //! The reads that a drive is to do, least number first.
-ghost use Rattle.std.specs.Prelude.{◌≡◌, ◌<◌, ◌||◌, ◌&&◌, ◌==◌, not, ℕ, true, false, [], IfSome, IfNone, OnOk, OnErr, OnSome};
+ghost use Rattle.std.specs.Prelude.{◌≡◌, ◌≢◌, ◌<◌, ℕ, true, false, [], IfSome, IfNone, OnOk, OnErr};
 ghost use Rattle.vx_file.specs.Queue.{is_in};
 
 use std::alloc::{AllocError, Global};
@@ -31,7 +31,8 @@ impl Queue {
 
     /// Adds a number. Without memory nothing changes.
     pub fn add(&mut self, number: u64) -> Result<(), AllocError>
-        ensures ok { OnOk result ((n : ℕ) → is_in self.new n ≡ (n == number || is_in self.old n)) }
+        ensures added { OnOk result (is_in self.new number ≡ true) }
+        ensures others { OnOk result ((n : ℕ) → n ≢ number → is_in self.new n ≡ is_in self.old n) }
         ensures err { OnErr result (self.new ≡ self.old) }
     {
         self.numbers.insert(number)?;
@@ -49,7 +50,8 @@ impl Queue {
 
     /// Takes a number away.
     pub fn remove(&mut self, number: u64)
-        ensures { (n : ℕ) → is_in self.new n ≡ (is_in self.old n && not (n == number)) }
+        ensures removed { is_in self.new number ≡ false }
+        ensures others { (n : ℕ) → n ≢ number → is_in self.new n ≡ is_in self.old n }
     {
         self.numbers.remove(&number);
     }

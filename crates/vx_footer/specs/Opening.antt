@@ -1,6 +1,6 @@
 -- What a file is: the opening checks in order, each a named condition on the whole file, and the footer
 -- where all of them hold. The first check that fails names the refusal.
-use Rattle.std.specs.Prelude.{ℕ, ◌≡◌, ◌+◌, ◌-◌, Bool, ◌&&◌, ◌||◌, true, false, not, ◌==◌, nat_le, nat_lt, min, if◌then◌else◌, List, [], ◌∷◌, length, take, drop, codes, Option, Some, None, is_some, is_none, slice_get, Result, Ok, Err}
+use Rattle.std.specs.Prelude.{ℕ, ◌≡◌, ◌≤◌, ◌+◌, ◌-◌, Bool, ◌&&◌, ◌||◌, true, false, not, ◌==◌, nat_le, nat_lt, min, if◌then◌else◌, List, [], ◌∷◌, length, take, drop, codes, Option, Some, None, is_some, is_none, slice_get, Result, Ok, Err}
 use Rattle.std.specs.Int.{w16, from_le_bytes}
 use Rattle.std.specs.Str.{bytes_eq}
 use Rattle.vx_base.specs.Buffer.{bytes_at}
@@ -182,6 +182,10 @@ table_checks piece size t = do
   footer_bytes ← OutOfBounds lacking piece t.footer
   layout_bytes ← OutOfBounds lacking piece t.layout
   footer_checks ptype size footer_bytes layout_bytes
+
+-- a segment ends within a file of this size
+abbrev pub EndsWithin : ℕ → SegmentSpec → Type 0
+EndsWithin size s = s.offset + s.length ≤ size
 
 -- ---- the file
 

@@ -1,7 +1,7 @@
 //! Opens a file: the checks in order, and the footer.
-ghost use Rattle.std.specs.Prelude.{◌≡◌, ◌+◌, ◌^◌, ◌<◌, List, ℕ, length};
+ghost use Rattle.std.specs.Prelude.{◌≡◌, ◌+◌, ◌^◌, ◌<◌, List, ℕ, length, All, IfOk};
 ghost use Rattle.std.specs.Option.{option_map};
-ghost use Rattle.vx_footer.specs.Opening.{ptype_of_number, ptype_of, is_flat as is_flat_id, is_known as is_known_id, is_leaf as is_leaf_table, is_small as is_small_table, layout_checks, segment_checks, dtype_checks, layout_and_segment, footer_checks, table_checks, seen_bytes, seen_checks, vx_grammar, IsTail, Gives};
+ghost use Rattle.vx_footer.specs.Opening.{ptype_of_number, ptype_of, is_flat as is_flat_id, is_known as is_known_id, is_leaf as is_leaf_table, is_small as is_small_table, layout_checks, segment_checks, dtype_checks, layout_and_segment, footer_checks, table_checks, seen_bytes, seen_checks, vx_grammar, IsTail, EndsWithin, Gives};
 
 use crate::marker::postscript_of;
 use crate::postscript::tables_of;
@@ -109,7 +109,8 @@ fn layout_in(footer: &FooterTable, bytes: &[u8]) -> Result<LayoutTable, OpenErro
 /// The data segment, in a file of this size.
 #[tactic(auto, unfolding(crate::specs::Opening::segment_checks))]
 fn segment_of(locator: Locator, size: u64) -> Result<SegmentSpec, OpenError>
-    ensures { Gives (λ segment. segment) result (segment_checks locator size) }
+    ensures value { Gives (λ segment. segment) result (segment_checks locator size) }
+    ensures within { IfOk result (EndsWithin size) }
 {
     let Ok(alignment) = Alignment::new(locator.exponent) else {
         return Err(OpenError::BadAlignment);
@@ -149,7 +150,8 @@ fn layout_and_segment_of(
     size: u64,
     layout_bytes: &[u8],
 ) -> Result<(LayoutTable, SegmentSpec), OpenError>
-    ensures { Gives (λ parts. parts) result (layout_and_segment footer.now size layout_bytes.now) }
+    ensures value { Gives (λ parts. parts) result (layout_and_segment footer.now size layout_bytes.now) }
+    ensures within { IfOk result (λ parts. EndsWithin size parts.1) }
 {
     let Some(segment) = footer.segment else {
         return Err(OpenError::Unsupported);
@@ -174,7 +176,8 @@ fn footer_in(
     footer_bytes: &[u8],
     layout_bytes: &[u8],
 ) -> Result<Footer, OpenError>
-    ensures { Gives (λ footer. footer) result (footer_checks ptype size footer_bytes.now layout_bytes.now) }
+    ensures value { Gives (λ footer. footer) result (footer_checks ptype size footer_bytes.now layout_bytes.now) }
+    ensures within { IfOk result (λ footer. All (EndsWithin size) footer.segments) }
 {
     let footer = match read_footer(alloc, footer_bytes) {
         Ok(footer) => footer,
@@ -195,7 +198,8 @@ fn footer_in(
 #[tactic(auto, unfolding(crate::specs::Opening::table_checks))]
 fn footer_of(alloc: Global, start: u64, tail: &[u8], tables: Tables) -> Result<Footer, OpenError>
     requires { start + length tail.now < 2 ^ 64 }
-    ensures { Gives (λ footer. footer) result (table_checks (seen_bytes start tail.now) (start + length tail.now) tables) }
+    ensures value { Gives (λ footer. footer) result (table_checks (seen_bytes start tail.now) (start + length tail.now) tables) }
+    ensures within { IfOk result (λ footer. All (EndsWithin (start + length tail.now)) footer.segments) }
 {
     let Some(dtype_bytes) = bytes_of(start, tail, tables.dtype) else {
         return Err(OpenError::OutOfBounds);
@@ -214,7 +218,8 @@ fn footer_of(alloc: Global, start: u64, tail: &[u8], tables: Tables) -> Result<F
 #[tactic(auto, unfolding(crate::specs::Opening::seen_checks, crate::specs::Opening::opening_checks))]
 fn read_seen(alloc: Global, start: u64, tail: &[u8]) -> Result<Footer, OpenError>
     requires { start + length tail.now < 2 ^ 64 }
-    ensures { Gives (λ footer. footer) result (seen_checks start tail.now) }
+    ensures value { Gives (λ footer. footer) result (seen_checks start tail.now) }
+    ensures within { IfOk result (λ footer. All (EndsWithin (start + length tail.now)) footer.segments) }
 {
     let tables = tables_of(postscript_of(tail)?)?;
     if tables.least_offset() < start {
@@ -228,7 +233,8 @@ impl Footer {
     /// the file fails.
     pub fn read(alloc: Global, start: u64, tail: &[u8]) -> Result<Footer, OpenError>
         requires { start + length tail.now < 2 ^ 64 }
-        ensures { (file : List ℕ) → IsTail file start tail.now → Gives (λ footer. footer) result (vx_grammar file) }
+        ensures value { (file : List ℕ) → IsTail file start tail.now → Gives (λ footer. footer) result (vx_grammar file) }
+        ensures within { IfOk result (λ footer. All (EndsWithin (start + length tail.now)) footer.segments) }
     {
         read_seen(alloc, start, tail)
     }
