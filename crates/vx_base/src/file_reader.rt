@@ -137,7 +137,10 @@ pub struct FileOpener<R: Files<File = File> + Drop> {
 
 impl<R: Files<File = File> + Drop> FileOpener<R> {
     /// What opens files of a runtime, as that of `main`.
-    pub fn new(runtime: R) -> FileOpener<R> {
+    pub fn new(runtime: R) -> FileOpener<R>
+        ensures faults { ⟦<FileOpener<R> as Opener>⟧.faults result ≡ 0 }
+        ensures read_faults { ⟦<FileOpener<R> as Opener>⟧.read_faults result ≡ 0 }
+    {
         FileOpener {
             runtime,
             failures: 0,
