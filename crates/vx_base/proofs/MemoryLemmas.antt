@@ -1,5 +1,5 @@
 -- A reader in memory without mischief.
-use Rattle.std.proofs.Common.{◌≡◌, ℕ, ◌+◌, ◌≤◌, Bool, true, false, nat_le, List, [], ◌∷◌, map, length, All, refl, arith, length-take, length-drop, None, Ok, Err, if◌then◌else◌}
+use Rattle.std.proofs.Common.{◌≡◌, ℕ, ◌+◌, Bool, true, false, nat_le, List, [], ◌∷◌, map, length, All, refl, arith, length-take, length-drop, None, Ok, Err, if◌then◌else◌}
 use Rattle.std.proofs.lemmas.List.Elements.{recursion_from_All}
 use Rattle.std.proofs.lemmas.Bool.Decides.{nat_tests}
 use Rattle.std.specs.List.{AllByRecursion}
@@ -35,15 +35,15 @@ unmarked n false buffer h e = cc
 -- a plain answer inside the bytes has no mark
 pub plain-marked : (b : List ℕ) (r : ReadAtRequest) (rest : List ReadAtRequest) → IsInside b r → mark_of r (map (plain_answer b) (r ∷ rest)) ≡ None
 plain-marked b r rest h =
-  rw (same_range-refl r) (unmarked r.length _ (record { bytes = bytes_at b r.offset r.length; alignment = r.alignment }) (inside-test b r h) (length-bytes_at b r h))
+    rw (same_range-refl r) (unmarked r.length _ (record { bytes = bytes_at b r.offset r.length; alignment = r.alignment }) (inside-test b r h) (length-bytes_at b r h))
 
 -- plain answers inside the bytes leave no fault
 pub plain-faulted : (b : List ℕ) (asked : List ReadAtRequest) → AllByRecursion (IsInside b) asked → faulted (logged asked (map (plain_answer b) asked)) ≡ 0
 plain-faulted b [] h = refl
 plain-faulted b (r ∷ rest) h =
-  rw (plain-marked b r rest h.0, same_range-refl r) (plain-faulted b rest h.1)
+    rw (plain-marked b r rest h.0, same_range-refl r) (plain-faulted b rest h.1)
 
 -- a reader that behaves leaves no fault inside the bytes
 pub well_behaved-faulted : (b : List ℕ) (mischief : List Mischief) (asked : List ReadAtRequest) (answers : List RangeAnswer) → is_well_behaved mischief ≡ true → All (IsInside b) asked → (mischief ≡ [] → answers ≡ map (plain_answer b) asked) → faulted (logged asked answers) ≡ 0
 well_behaved-faulted b mischief asked answers w inside plain =
-  rw (plain (well_behaved-nil mischief w)) (plain-faulted b asked (recursion_from_All (IsInside b) asked inside))
+    rw (plain (well_behaved-nil mischief w)) (plain-faulted b asked (recursion_from_All (IsInside b) asked inside))

@@ -1,10 +1,9 @@
 -- What contracts see of a reader in memory, and what it answers without mischief.
-use Rattle.std.specs.Prelude.{ℕ, ◌+◌, Bool, true, false, nat_le, List, [], ◌∷◌, length, Option, Ok, Err, Result, if◌then◌else◌}
-use Rattle.vx_base.specs.Buffer.{Buffer, bytes_at}
+use Rattle.std.specs.Prelude.{ℕ, ◌+◌, Bool, true, false, nat_le, List, [], ◌∷◌, length, Option, Ok, Err, if◌then◌else◌}
+use Rattle.vx_base.specs.Buffer.{bytes_at}
 use Rattle.vx_base.specs.Asking.{Log}
 use Rattle.vx_base.specs.declared.answer.ReadAtRequest.{ReadAtRequest}
 use Rattle.vx_base.specs.declared.answer.RangeAnswer.{RangeAnswer}
-use Rattle.vx_base.specs.declared.fault.Failed.{Failed}
 use Rattle.vx_base.specs.declared.segment.CoalesceConfig.{CoalesceConfig}
 use Rattle.vx_base.specs.declared.mischief.Mischief.{Mischief}
 
@@ -30,5 +29,6 @@ abbrev pub plain_answer : List ℕ → ReadAtRequest → RangeAnswer
 plain_answer bytes range = record {
   request = range;
   result = if nat_le (range.offset + range.length) (length bytes)
-    then Ok (record { bytes = bytes_at bytes range.offset range.length; alignment = range.alignment })
-    else Err (record {}) }
+      then Ok (record { bytes = bytes_at bytes range.offset range.length; alignment = range.alignment })
+      else Err (record {});
+}

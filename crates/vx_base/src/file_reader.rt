@@ -2,8 +2,8 @@
 ghost use Rattle.std.specs.Prelude.{◌≡◌};
 
 use crate::{
-    ByteBuffer, CloneError, CoalesceConfig, Failed, Opener, OpenerError, RangeAnswer, ReadAtRequest,
-    Reader, count_faulted, log_answers,
+    ByteBuffer, CloneError, CoalesceConfig, Failed, Opener, OpenerError, RangeAnswer,
+    ReadAtRequest, Reader, count_faulted, log_answers,
 };
 use std::alloc::{AllocError, Global};
 use std::fs;
@@ -36,7 +36,10 @@ impl FileReader {
             if done >= into.len() {
                 return Ok(());
             }
-            match self.file.read_at(&mut into[done..], offset.wrapping_add(done as u64)) {
+            match self
+                .file
+                .read_at(&mut into[done..], offset.wrapping_add(done as u64))
+            {
                 Ok(0) => return Err(Failed),
                 Ok(count) => done += count,
                 Err(error) => {
@@ -177,7 +180,12 @@ impl<R: Files<File = File> + Drop> Opener for FileOpener<R> {
         }
     }
 
-    fn take_back(&mut self, alloc: Global, name: &str, reader: FileReader) -> Result<(), AllocError> {
+    fn take_back(
+        &mut self,
+        alloc: Global,
+        name: &str,
+        reader: FileReader,
+    ) -> Result<(), AllocError> {
         let _ = alloc;
         let _ = name;
         self.read_failures = self.read_failures.saturating_add(reader.failures);

@@ -18,6 +18,8 @@ mod reader;
 mod segment;
 mod std_stream;
 mod stream;
+#[cfg(test)]
+mod tests;
 mod windowed;
 
 pub use alignment::{Alignment, BadAlignment};

@@ -62,8 +62,18 @@ fn mark(length: usize, outline: Option<Outline>) -> Option<FaultKind>
 {
     match outline {
         None => Some(FaultKind::MissingRange),
-        Some(Outline { request: _, count: None }) => Some(FaultKind::ReadFault),
-        Some(Outline { request: _, count: Some(count) }) => {
+        Some(
+            Outline {
+                request: _,
+                count: None,
+            },
+        ) => Some(FaultKind::ReadFault),
+        Some(
+            Outline {
+                request: _,
+                count: Some(count),
+            },
+        ) => {
             if count == length {
                 None
             } else {

@@ -5,9 +5,7 @@ ghost use Rattle.vx_base.specs.Memory.{is_well_behaved};
 ghost use Rattle.vx_base.specs.Counts.{Rises, last_count};
 ghost use Rattle.vx_base.specs.Returning.{Returned};
 
-use crate::{
-    Asked, ByteBuffer, MemReader, Mischief, Opener, OpenerError,
-};
+use crate::{Asked, ByteBuffer, MemReader, Mischief, Opener, OpenerError};
 use std::alloc::{AllocError, Global};
 use std::marker::Model;
 
@@ -87,7 +85,7 @@ impl MemOpener {
             ≡ option_map (λ f. f.1.bytes) (find (λ f. bytes_eq (string_bytes f.0) name) files.items) }
         ensures sound { (name : List ℕ) → ⟦<MemOpener as Opener>⟧.readers_never_fail result name
             ≡ option_map_or (λ f. is_well_behaved f.2.items)
-                (find (λ f. bytes_eq (string_bytes f.0) name) files.items) false }
+            (find (λ f. bytes_eq (string_bytes f.0) name) files.items) false }
     {
         MemOpener {
             files,
@@ -111,7 +109,7 @@ fn reader_of(
         ≡ option_map (λ f. f.1.bytes) (find (λ f. bytes_eq (string_bytes f.0) name.now) files.now)) }
     ensures sound { IfOk result (λ found. option_map_or (λ r. is_well_behaved r.mischief) found false
         ≡ option_map_or (λ f. is_well_behaved f.2.items)
-            (find (λ f. bytes_eq (string_bytes f.0) name.now) files.now) false) }
+        (find (λ f. bytes_eq (string_bytes f.0) name.now) files.now) false) }
     ensures fresh { IfOk result (λ found. IfSome found (λ r. (r.log ≡ []) × (r.faults ≡ 0))) }
 {
     for (text, bytes, mischief) in files {
@@ -154,9 +152,15 @@ impl Opener for MemOpener {
         }
     }
 
-    fn take_back(&mut self, alloc: Global, name: &str, reader: MemReader) -> Result<(), AllocError> {
+    fn take_back(
+        &mut self,
+        alloc: Global,
+        name: &str,
+        reader: MemReader,
+    ) -> Result<(), AllocError> {
         self.read_failures = self.read_failures.saturating_add(reader.failures());
-        self.back.push(TakenBack::new(alloc, name, reader.into_log())?)?;
+        self.back
+            .push(TakenBack::new(alloc, name, reader.into_log())?)?;
         Ok(())
     }
 }

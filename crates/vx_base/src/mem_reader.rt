@@ -53,8 +53,16 @@ impl MemReader {
         mischief: Vec<Mischief>,
     ) -> Result<MemReader, AllocError>
         requires { 1 ≤ concurrency }
-        ensures { IfOk result (λ r. r ≡ record { bytes = bytes.bytes; window = window;
-            most = concurrency; mischief = mischief.items; log = []; faults = 0; sizes = 0; clones = 0 }) }
+        ensures { IfOk result (λ r. r ≡ record {
+          bytes = bytes.bytes;
+          window = window;
+          most = concurrency;
+          mischief = mischief.items;
+          log = [];
+          faults = 0;
+          sizes = 0;
+          clones = 0;
+        }) }
     {
         Ok(MemReader {
             held: bytes,
@@ -80,7 +88,17 @@ impl MemReader {
     pub(crate) fn into_log(self) -> Vec<Asked>
         ensures { result.items ≡ self.log }
     {
-        let MemReader { held: _, gathered: _, concurrent: _, wrongs: _, asked, ranges: _, failures: _, size_calls: _, clone_calls: _ } = self;
+        let MemReader {
+            held: _,
+            gathered: _,
+            concurrent: _,
+            wrongs: _,
+            asked,
+            ranges: _,
+            failures: _,
+            size_calls: _,
+            clone_calls: _,
+        } = self;
         asked
     }
 
@@ -113,7 +131,11 @@ impl MemReader {
     }
 
     // The answers of a call, in the order that they come in.
-    fn answers(&self, alloc: Global, asked: &[ReadAtRequest]) -> Result<Vec<RangeAnswer>, AllocError>
+    fn answers(
+        &self,
+        alloc: Global,
+        asked: &[ReadAtRequest],
+    ) -> Result<Vec<RangeAnswer>, AllocError>
         ensures slices { IfOk result (λ answers. All (IsTrueTo self.now.bytes) answers.items) }
         ensures plain { self.now.mischief ≡ [] → IfOk result (λ answers.
             answers.items ≡ map (plain_answer self.now.bytes) asked.now) }
@@ -122,8 +144,24 @@ impl MemReader {
     {
         let place = self.ranges.len() as u64;
         let mut answers = Vec::new(alloc);
-        push_turn(alloc, &self.held, self.wrongs.as_slice(), place, asked, false, &mut answers)?;
-        push_turn(alloc, &self.held, self.wrongs.as_slice(), place, asked, true, &mut answers)?;
+        push_turn(
+            alloc,
+            &self.held,
+            self.wrongs.as_slice(),
+            place,
+            asked,
+            false,
+            &mut answers,
+        )?;
+        push_turn(
+            alloc,
+            &self.held,
+            self.wrongs.as_slice(),
+            place,
+            asked,
+            true,
+            &mut answers,
+        )?;
         Ok(answers)
     }
 }
@@ -185,6 +223,12 @@ impl Reader for MemReader {
             return Err(CloneError::Failed);
         }
         let bytes = self.held.share(alloc)?;
-        Ok(MemReader::new(alloc, bytes, self.gathered, self.concurrent, Vec::new(alloc))?)
+        Ok(MemReader::new(
+            alloc,
+            bytes,
+            self.gathered,
+            self.concurrent,
+            Vec::new(alloc),
+        )?)
     }
 }
