@@ -22,8 +22,12 @@ pub record Kept : Type 0 where
 abbrev pub cut : Kept → SegmentSpec → Buffer
 cut k s = record { bytes = bytes_at k.tail.bytes (s.offset - k.start) s.length; alignment = s.alignment }
 
+-- a request for a segment that the tail holds is ready at once
+abbrev pub first_state : Kept → SegmentSpec → RequestState
+first_state k s = if nat_le k.start s.offset then state.Ready (cut k s) else state.Waiting
+
 abbrev pub fresh : Kept → SegmentSpec → Request
-fresh k s = record { spec = s; end = s.offset + s.length; state = if nat_le k.start s.offset then state.Ready (cut k s) else state.Waiting }
+fresh k s = record { spec = s; end = s.offset + s.length; state = first_state k s }
 
 abbrev pub with_request : Kept → Request → Kept
 with_request k r = record k { requests = k.requests ++ r ∷ [] }
@@ -48,13 +52,17 @@ polled_state state.Polled = state.Polled
 polled_state (state.Bad fault) = state.Ended
 polled_state state.Ended = state.Ended
 
--- the request with this number, if there is one, gave this reply
+abbrev pub is_waiting_state : RequestState → Bool
+is_waiting_state state.Waiting = true
+is_waiting_state _ = false
+
+-- a request, if there is one with this number, gave this reply to a poll
+abbrev pub PollsRequest : Kept → ℕ → Option Request → Reply → Kept → Type 0
+PollsRequest old n None reply new = (reply ≡ NotLive) × (new ≡ old)
+PollsRequest old n (Some r) reply new = (reply ≡ poll_reply r.state) × (new ≡ with_state old n r (polled_state r.state))
+
 abbrev pub Polls : Kept → ℕ → Reply → Kept → Type 0
 Polls old n reply new = PollsRequest old n (slice_get old.requests n) reply new
-  where
-    PollsRequest : Kept → ℕ → Option Request → Reply → Kept → Type 0
-    PollsRequest old n None reply new = (reply ≡ NotLive) × (new ≡ old)
-    PollsRequest old n (Some r) reply new = (reply ≡ poll_reply r.state) × (new ≡ with_state old n r (polled_state r.state))
 
 -- ---- driving
 
@@ -62,24 +70,23 @@ abbrev pub is_polled_state : RequestState → Bool
 is_polled_state state.Polled = true
 is_polled_state _ = false
 
+abbrev pub is_due_request : Option Request → Bool
+is_due_request None = false
+is_due_request (Some r) = is_polled_state r.state
+
 -- whether a request is to be read by a drive
 abbrev pub is_due_at : List Request → ℕ → Bool
-is_due_at requests n = due (slice_get requests n)
-  where
-    due : Option Request → Bool
-    due None = false
-    due (Some r) = is_polled_state r.state
+is_due_at requests n = is_due_request (slice_get requests n)
 
 -- the least request that is to be read
-pub record IsNext (k : Kept) (n : ℕ) (r : Request) : Type 0 where
-  pub found : slice_get k.requests n ≡ Some r
-  pub due : is_polled_state r.state ≡ true
+pub record IsNext (k : Kept) (n : ℕ) : Type 0 where
+  pub due : is_due_at k.requests n ≡ true
   pub least : (m : ℕ) → m < n → is_due_at k.requests m ≡ false
 
--- the state that a read leaves
-abbrev pub read_state : Result Buffer Fault → RequestState
-read_state (Ok buffer) = state.Ready buffer
-read_state (Err fault) = state.Bad fault
+-- the state that a read of a segment leaves
+abbrev pub read_state : SegmentSpec → Result Buffer Fault → RequestState
+read_state s (Ok buffer) = state.Ready (record { bytes = buffer.bytes; alignment = s.alignment })
+read_state s (Err fault) = state.Bad fault
 
 -- the queue has the numbers of the requests that are to be read
 abbrev pub IsTied : List Request → List ℕ → Type 0
