@@ -1,2 +1,3 @@
+pub mod Histories
 pub mod OneRange
 pub mod Requests

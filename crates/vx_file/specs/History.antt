@@ -1,7 +1,6 @@
 -- What a history of steps and replies says of its requests. A history is a list of moments, the newest
 -- first, and each word is taken after all of them.
-use Rattle.std.specs.Prelude.{ℕ, ◌+◌, Bool, true, false, ◌&&◌, ◌||◌, not, ◌==◌, if◌then◌else◌, List, [], ◌∷◌, Option, Some, None, is_none}
-use Rattle.std.specs.List.{list_any}
+use Rattle.std.specs.Prelude.{ℕ, ◌+◌, Bool, true, false, ◌&&◌, not, ◌==◌, if◌then◌else◌, List, [], ◌∷◌, Option, Some, None, is_none}
 use Rattle.vx_file.specs.declared.step.Step.{Step}
 use Rattle.vx_file.specs.declared.step.Step.TheVariants.{Register, Poll, Drive}
 use Rattle.vx_file.specs.declared.reply.Reply.{Reply}
@@ -59,12 +58,12 @@ answers (Failed fault) = true
 answers _ = false
 
 abbrev pub ends : Step → Reply → ℕ → Bool
-ends (Poll number) reply n = n == number && answers reply
+ends (Poll number) reply n = if answers reply then n == number else false
 ends _ reply n = false
 
 abbrev pub is_live : List Moment → ℕ → Bool
 is_live [] n = false
-is_live (m ∷ past) n = if makes m.reply n then true else is_live past n && not (ends m.step m.reply n)
+is_live (m ∷ past) n = if makes m.reply n then true else if ends m.step m.reply n then false else is_live past n
 
 -- ---- reads: a number that is not held has one, which bears the number
 
@@ -73,26 +72,33 @@ is_alive NotLive = false
 is_alive _ = true
 
 abbrev pub polls : Step → Reply → ℕ → Bool
-polls (Poll number) reply n = n == number && is_alive reply
+polls (Poll number) reply n = if is_alive reply then n == number else false
 polls _ reply n = false
 
 -- whether a poll of the number was answered other than NotLive
 abbrev pub is_polled : List Moment → ℕ → Bool
 is_polled [] n = false
-is_polled (m ∷ past) n = polls m.step m.reply n || is_polled past n
+is_polled (m ∷ past) n = if polls m.step m.reply n then true else is_polled past n
 
--- how the first of these spans that lists a read went
-abbrev pub outcome_in : List Span → ℕ → Option SpanOutcome
-outcome_in [] n = None
-outcome_in (span ∷ spans) n = if list_any (λ read. n == read) span.reads then Some span.outcome else outcome_in spans n
-
-abbrev pub spans_in : Reply → List Span
-spans_in (Driven spans) = spans
-spans_in _ = []
+abbrev pub is_among : ℕ → List ℕ → Bool
+is_among n [] = false
+is_among n (m ∷ ms) = if n == m then true else is_among n ms
 
 abbrev pub first_of : Option SpanOutcome → Option SpanOutcome → Option SpanOutcome
 first_of None other = other
 first_of (Some outcome) other = Some outcome
+
+abbrev pub outcome_by : Span → ℕ → Option SpanOutcome
+outcome_by span n = if is_among n span.reads then Some span.outcome else None
+
+-- how the last of these spans that lists a read went
+abbrev pub outcome_in : List Span → ℕ → Option SpanOutcome
+outcome_in [] n = None
+outcome_in (span ∷ spans) n = first_of (outcome_in spans n) (outcome_by span n)
+
+abbrev pub spans_in : Reply → List Span
+spans_in (Driven spans) = spans
+spans_in _ = []
 
 -- how the span that lists a read went, where one does
 abbrev pub outcome_of : List Moment → ℕ → Option SpanOutcome

@@ -4,3 +4,5 @@ pub mod Fits
 pub mod History
 pub mod Kept
 pub mod Queue
+pub mod Stands
+pub mod Turns
