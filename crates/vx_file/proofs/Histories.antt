@@ -22,7 +22,7 @@ use Rattle.vx_file.specs.declared.span.SpanOutcome.{SpanOutcome}
 use Rattle.vx_file.specs.declared.span.SpanOutcome.TheVariants.{Good, Bad}
 use Rattle.vx_file.specs.History.{Moment, moment, makes, made, ends, polls, outcome_in, outcome_of, spans_in, first_of, waits, is_live, is_polled, is_held, segment_of}
 use Rattle.vx_file.specs.Fits.{World, spec_of, slice_of, covers, is_due, Merges, Drives, IsRow, is_good, NamesRange}
-use Rattle.vx_file.specs.Kept.{Kept, cut, first_state, fresh, with_request, with_state, poll_reply, polled_state, PollsRequest, Polls, is_due_at, is_due_request, is_polled_state, IsNext, read_state}
+use Rattle.vx_file.specs.Kept.{Kept, cut, first_state, fresh, with_request, with_state, poll_reply, polled_state, PollsRequest, Polls, is_due_at, is_due_request, is_polled_state, IsNext, read_state, outcome_read}
 use Rattle.vx_file.specs.Stands.{Words, words, MatchesState, Matches, Unmade, Stands}
 use Rattle.vx_file.proofs.Requests.{get-push_last, get-push_other, get-set_same, get-set_other, same_or_not}
 
@@ -219,11 +219,6 @@ due-at w past k n (Some r) st got = state-due w (words w past n) r.spec r.state 
 
 pub due-is : (w : World) (past : List Moment) (k : Kept) (n : ℕ) → Stands w past k → is_due past n ≡ is_due_at k.requests n
 due-is w past k n st = due-at w past k n (slice_get k.requests n) st refl
-
--- how a read went
-abbrev pub outcome_read : Result Buffer Fault → SpanOutcome
-outcome_read (Ok buffer) = Good
-outcome_read (Err fault) = Bad fault
 
 -- the span of one read
 abbrev pub span_of : ℕ → Request → SpanOutcome → Span

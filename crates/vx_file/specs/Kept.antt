@@ -8,6 +8,8 @@ use Rattle.vx_file.specs.declared.request.RequestState.{RequestState}
 use Rattle.vx_file.specs.declared.request.RequestState.TheVariants as state
 use Rattle.vx_file.specs.declared.reply.Reply.{Reply}
 use Rattle.vx_file.specs.declared.reply.Reply.TheVariants.{Registered, Ready, Pending, Failed, NotLive}
+use Rattle.vx_file.specs.declared.span.SpanOutcome.{SpanOutcome}
+use Rattle.vx_file.specs.declared.span.SpanOutcome.TheVariants.{Good, Bad}
 use Rattle.vx_file.specs.Queue.{is_in}
 
 -- where the tail begins, its bytes, and the requests by their numbers
@@ -87,6 +89,11 @@ pub record IsNext (k : Kept) (n : ℕ) : Type 0 where
 abbrev pub read_state : SegmentSpec → Result Buffer Fault → RequestState
 read_state s (Ok buffer) = state.Ready (record { bytes = buffer.bytes; alignment = s.alignment })
 read_state s (Err fault) = state.Bad fault
+
+-- how a read went
+abbrev pub outcome_read : Result Buffer Fault → SpanOutcome
+outcome_read (Ok buffer) = Good
+outcome_read (Err fault) = Bad fault
 
 -- the queue has the numbers of the requests that are to be read
 abbrev pub IsTied : List Request → List ℕ → Type 0
