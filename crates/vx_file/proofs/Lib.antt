@@ -3,3 +3,4 @@ pub mod Driving
 pub mod Histories
 pub mod OneRange
 pub mod Requests
+pub mod Serves

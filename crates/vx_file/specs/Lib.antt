@@ -4,5 +4,7 @@ pub mod Fits
 pub mod History
 pub mod Kept
 pub mod Queue
+pub mod Serving
 pub mod Stands
+pub mod Tails
 pub mod Turns

@@ -8,6 +8,7 @@ mod fault;
 mod queue;
 mod reply;
 mod request;
+mod serving;
 mod served;
 mod session;
 
@@ -16,6 +17,7 @@ mod step;
 
 pub use fault::{Fault, Place};
 pub use reply::Reply;
+pub use serving::serve;
 pub use served::{Opening, Replies, ServeError, Served};
 pub use span::{ReadNumbers, Span, SpanOutcome, Spans};
 pub use step::Step;
