@@ -1,3 +1,5 @@
+pub mod Block
 pub mod Field
+pub mod Writing
 pub mod Counted
 pub mod Reader
