@@ -1,3 +1,6 @@
 pub mod Order
+pub mod Parts
+pub mod Places
+pub mod ReadBack
 pub mod Walk
 pub mod Text

@@ -39,3 +39,6 @@ order_push next (q ∷ ps) p h above below narrow =
     let f = first_of_order next q ps h in
     let rest : in_order (q.slot + 1) (ps ++ p ∷ []) ≡ true = order_push (q.slot + 1) ps p f.rest above below narrow in
     grind (arith, nat_tests)
+
+pub order_cons : (next : ℕ) (p : Piece) (ps : List Piece) → next ≤ p.slot → p.slot < 1024 → fixed_size p ≤ 8 → in_order (p.slot + 1) ps ≡ true → in_order next (p ∷ ps) ≡ true
+order_cons next p ps above below narrow rest = grind (arith, nat_tests)
