@@ -2,5 +2,6 @@ pub mod Order
 pub mod Parts
 pub mod Places
 pub mod ReadBack
+pub mod ReadTexts
 pub mod Walk
 pub mod Text
