@@ -3,5 +3,6 @@ pub mod Parts
 pub mod Places
 pub mod ReadBack
 pub mod ReadTexts
+pub mod ReadVectors
 pub mod Walk
 pub mod Text

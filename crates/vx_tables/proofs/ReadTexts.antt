@@ -76,7 +76,7 @@ pub record IsTableField (b : List ℕ) (read : Option (Option Table)) (ps : List
   pub found : read ≡ Some (Some table)
   pub stands : Stands b table ps
 
-length-block : (ps : List Piece) → in_order 0 ps ≡ true → vtable_size ps ≤ length (block ps)
+pub length-block : (ps : List Piece) → in_order 0 ps ≡ true → vtable_size ps ≤ length (block ps)
 length-block ps order = omega (arith, length-append (vtable ps ++ u32_bytes (vtable_size ps)) (body ps), length-append (vtable ps) (u32_bytes (vtable_size ps)), length-vtable ps order)
 
 pub table_field_back : (b : List ℕ) (t : Table) (ps : List Piece) (k : ℕ) (qs : List Piece) → Stands b t ps → piece_at k ps ≡ Some (written.table k qs) → in_order 0 qs ≡ true
