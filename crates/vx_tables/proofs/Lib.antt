@@ -1,6 +1,8 @@
 pub mod Order
 pub mod Parts
 pub mod Places
+pub mod ReadAll
+pub mod ReadCounted
 pub mod ReadBack
 pub mod ReadTexts
 pub mod ReadVectors

@@ -13,7 +13,7 @@ use Rattle.vx_tables.specs.declared.elements.Elements.TheVariants.{Numbers, Offs
 use Rattle.vx_tables.specs.Block.{Piece, low, u32_bytes, fixed_size, tail, cell, cells, fixed_len, body, vtable_size, block, vtable, root_bytes, in_order, counted_block, segment}
 use Rattle.vx_tables.specs.Block as written
 use Rattle.vx_tables.specs.Field.{Table, Vector, forward, num, target, table_at, root, text, vector, element_size, target_field, text_field, table_field, vector_field, element_target, text_of_vector, table_of_vector, element_bytes, bytes}
-use Rattle.vx_tables.specs.Standing.{IsAt, Stands, piece_at}
+use Rattle.vx_tables.specs.Standing.{IsAt, Stands, piece_at, IsTableAt, IsTableField}
 use Rattle.vx_tables.proofs.Parts.{tail_size, length-cells}
 use Rattle.vx_tables.proofs.Places.{at_left, at_right, at_move, at_same, at_inside, at_drop, bytes_back}
 use Rattle.vx_tables.proofs.ReadBack.{low_is, num_low, forward_is, IsCut, cut, IsTarget, target_back, target_absent, table_back, length-vtable, vtable_fits}
@@ -58,23 +58,11 @@ text_absent b t ps k h none = rw (target_absent b t ps k h none) refl
 
 -- ---- tables
 
--- a table that is found, where its pieces stand
-pub record IsTableAt (b : List ℕ) (read : Option Table) (ps : List Piece) : Type 0 where
-  pub table : Table
-  pub found : read ≡ Some table
-  pub stands : Stands b table ps
-
 pub block_stands : (b : List ℕ) (at : ℕ) (ps : List Piece) → IsAt b at (block ps) → length b < 2 ^ 32 → in_order 0 ps ≡ true → IsTableAt b (table_at b (at + vtable_size ps)) ps
 block_stands b at ps h short order =
     let t : Table = record { place = at + vtable_size ps; vtable = at; size = vtable_size ps } in
     let s : Stands b t ps = record { block = h; place = refl; size = refl; order = order; short = short } in
     record { table = t; found = table_back b t ps s; stands = s }
-
--- the same of a field
-pub record IsTableField (b : List ℕ) (read : Option (Option Table)) (ps : List Piece) : Type 0 where
-  pub table : Table
-  pub found : read ≡ Some (Some table)
-  pub stands : Stands b table ps
 
 pub length-block : (ps : List Piece) → in_order 0 ps ≡ true → vtable_size ps ≤ length (block ps)
 length-block ps order = omega (arith, length-append (vtable ps ++ u32_bytes (vtable_size ps)) (body ps), length-append (vtable ps) (u32_bytes (vtable_size ps)), length-vtable ps order)
@@ -113,7 +101,9 @@ pub record IsVectorField (b : List ℕ) (read : Option (Option Vector)) (count :
   pub vector : Vector
   pub found : read ≡ Some (Some vector)
   pub as_many : vector.count ≡ count
-  pub stands : IsAt b vector.first elements
+  pub start : ℕ
+  pub first : vector.first ≡ start + 4
+  pub stands : IsAt b (start + 4) elements
 
 vector_stands : (b : List ℕ) (at count : ℕ) (content : List ℕ) (elements : Elements) → IsAt b at (counted_block count content) → count < 2 ^ 32 → count * element_size elements ≤ length content
     → (let v : Vector = record { first = at + 4; count = count } in vector b at elements ≡ Some v)
@@ -124,12 +114,13 @@ vector_stands b at count content elements h lt le =
     rw (read, fits) refl
 
 pub vector_back : (b : List ℕ) (t : Table) (ps : List Piece) (k count : ℕ) (content : List ℕ) (elements : Elements) → Stands b t ps
-    → (let p : Piece = record { slot = k; lead = Some 0; bytes = counted_block count content } in piece_at k ps ≡ Some p) → count < 2 ^ 32 → count * element_size elements ≤ length content
+    → (let p : Piece = record { slot = k; lead = Some 0; bytes = counted_block count content } in piece_at k ps ≡ Some p) → count ≤ length content → count * element_size elements ≤ length content
     → IsVectorField b (vector_field b t k elements) count content
 unfolding vector_field
-vector_back b t ps k count content elements h found lt le =
+vector_back b t ps k count content elements h found few le =
     let g = target_back b t ps k 0 (counted_block count content) h found (omega arith) in
+    let lt : count < 2 ^ 32 = omega (arith, few, short_inside b (g.start + 4) content (elements_at b g.start count content g.stands) h.short) in
     let at : g.start + 0 ≡ g.start = omega arith in
     let read = ap (λ n. vector b n elements) at ∙ vector_stands b g.start count content elements g.stands lt le in
-    record { vector = record { first = g.start + 4; count = count }; found = rw (g.target, read) refl; as_many = refl; stands = elements_at b g.start count content g.stands }
+    record { vector = record { first = g.start + 4; count = count }; found = rw (g.target, read) refl; as_many = refl; start = g.start; first = refl; stands = elements_at b g.start count content g.stands }
 

@@ -11,50 +11,46 @@ use Rattle.vx_tables.specs.declared.elements.Elements.{Elements}
 use Rattle.vx_tables.specs.declared.elements.Elements.TheVariants.{Numbers, Offsets, Segments}
 use Rattle.vx_tables.specs.Block.{Piece, u32_bytes, fixed_size, tail, cell, cells, fixed_len, body, vtable_size, block, in_order, counted_block, segment}
 use Rattle.vx_tables.specs.Block as written
-use Rattle.vx_tables.specs.Counted.{Counted, ◌>>=◌, pure, counted, text_cost, deepest, together, one_deeper, enter, each_from, each_table, each_text}
 use Rattle.vx_tables.specs.Field.{Table, Vector, forward, num, target, table_at, text, element_size, vector_field, element_target, text_of_vector, table_of_vector, element_bytes}
-use Rattle.vx_tables.specs.Standing.{IsAt, Stands, piece_at}
+use Rattle.vx_tables.specs.Standing.{IsAt, Stands, piece_at, IsTableAt, IsPlainVector, AreTexts, AreTables}
 use Rattle.vx_tables.proofs.Parts.{tail_size, length-cells}
 use Rattle.vx_tables.proofs.Places.{at_left, at_right, at_move, at_same, at_inside, at_drop}
 use Rattle.vx_tables.proofs.ReadBack.{num_low, forward_is, cut}
-use Rattle.vx_tables.proofs.ReadTexts.{IsVectorField, IsTableAt, vector_back, block_stands, text_block, text_stands, length-block, short_inside}
+use Rattle.vx_tables.proofs.ReadTexts.{IsVectorField, vector_back, block_stands, text_block, text_stands, length-block, short_inside}
 
 -- ---- vectors without offsets
-
--- a vector whose elements are these bytes
-pub record IsPlainVector (b : List ℕ) (read : Option (Option Vector)) (elements : Elements) (count : ℕ) (content : List ℕ) : Type 0 where
-  pub vector : Vector
-  pub found : read ≡ Some (Some vector)
-  pub as_many : vector.count ≡ count
-  pub bytes : element_bytes b vector elements ≡ content
 
 length-flat : {A : Type 0} (f : A → List ℕ) (n : ℕ) → ((x : A) → length (f x) ≡ n) → (xs : List A) → length (flat_map f xs) ≡ length xs * n
 length-flat f n each [] = omega arith
 length-flat f n each (x ∷ xs) = length-append (f x) (flat_map f xs) ∙ grind (arith, each, length-flat f n each xs)
 
 pub plain_back : (b : List ℕ) (t : Table) (ps : List Piece) (k count : ℕ) (content : List ℕ) (elements : Elements) → Stands b t ps
-    → (let p : Piece = record { slot = k; lead = Some 0; bytes = counted_block count content } in piece_at k ps ≡ Some p) → count < 2 ^ 32 → count * element_size elements ≡ length content
+    → (let p : Piece = record { slot = k; lead = Some 0; bytes = counted_block count content } in piece_at k ps ≡ Some p) → count ≤ length content → count * element_size elements ≡ length content
     → IsPlainVector b (vector_field b t k elements) elements count content
-plain_back b t ps k count content elements h found lt size =
-    let v = vector_back b t ps k count content elements h found lt (omega (arith, size)) in
+plain_back b t ps k count content elements h found few size =
+    let v = vector_back b t ps k count content elements h found few (omega (arith, size)) in
     let as_long : v.vector.count * element_size elements ≡ length content = ap (λ n. n * element_size elements) v.as_many ∙ size in
-    record { vector = v.vector; found = v.found; as_many = v.as_many; bytes = at_drop b v.vector.first content v.stands (v.vector.count * element_size elements) as_long }
+    record { vector = v.vector; found = v.found; as_many = v.as_many; bytes = at_drop b v.vector.first content (at_move b (v.start + 4) v.vector.first content (sym v.first) v.stands) (v.vector.count * element_size elements) as_long }
 
-pub bytes_back : (b : List ℕ) (t : Table) (ps : List Piece) (k : ℕ) (xs : List ℕ) → Stands b t ps → piece_at k ps ≡ Some (written.bytes k xs) → length xs < 2 ^ 32
+pub bytes_back : (b : List ℕ) (t : Table) (ps : List Piece) (k : ℕ) (xs : List ℕ) → Stands b t ps → piece_at k ps ≡ Some (written.bytes k xs)
     → IsPlainVector b (vector_field b t k (Numbers 1)) (Numbers 1) (length xs) xs
-bytes_back b t ps k xs h found lt = plain_back b t ps k (length xs) xs (Numbers 1) h found lt (omega arith)
+bytes_back b t ps k xs h found = plain_back b t ps k (length xs) xs (Numbers 1) h found (omega arith) (omega arith)
 
-pub numbers_back : (b : List ℕ) (t : Table) (ps : List Piece) (k : ℕ) (ns : List ℕ) → Stands b t ps → piece_at k ps ≡ Some (written.numbers k ns) → length ns < 2 ^ 32
+pub numbers_back : (b : List ℕ) (t : Table) (ps : List Piece) (k : ℕ) (ns : List ℕ) → Stands b t ps → piece_at k ps ≡ Some (written.numbers k ns)
     → IsPlainVector b (vector_field b t k (Numbers 4)) (Numbers 4) (length ns) (flat_map (to_le_bytes w32) ns)
-numbers_back b t ps k ns h found lt = plain_back b t ps k (length ns) (flat_map (to_le_bytes w32) ns) (Numbers 4) h found lt (sym (length-flat (to_le_bytes w32) 4 (λ n. refl) ns))
+numbers_back b t ps k ns h found =
+    let size = length-flat (to_le_bytes w32) 4 (λ n. refl) ns in
+    plain_back b t ps k (length ns) (flat_map (to_le_bytes w32) ns) (Numbers 4) h found (omega (arith, size)) (sym size)
 
 length-segment : (s : SegmentSpec) → length (segment s) ≡ 16
 unfolding segment
 length-segment s = refl
 
-pub segments_back : (b : List ℕ) (t : Table) (ps : List Piece) (k : ℕ) (ss : List SegmentSpec) → Stands b t ps → piece_at k ps ≡ Some (written.segments k ss) → length ss < 2 ^ 32
+pub segments_back : (b : List ℕ) (t : Table) (ps : List Piece) (k : ℕ) (ss : List SegmentSpec) → Stands b t ps → piece_at k ps ≡ Some (written.segments k ss)
     → IsPlainVector b (vector_field b t k Segments) Segments (length ss) (flat_map segment ss)
-segments_back b t ps k ss h found lt = plain_back b t ps k (length ss) (flat_map segment ss) Segments h found lt (sym (length-flat segment 16 length-segment ss))
+segments_back b t ps k ss h found =
+    let size = length-flat segment 16 length-segment ss in
+    plain_back b t ps k (length ss) (flat_map segment ss) Segments h found (omega (arith, size)) (sym size)
 
 -- ---- vectors of offsets
 
@@ -71,8 +67,11 @@ nth (y ∷ xs) zero x h = record { front = []; rest = xs; parts = ap (λ z. z �
 nth (y ∷ xs) (suc i) x h = let n = nth xs i x h in record { front = y ∷ n.front; rest = n.rest; parts = ap (λ zs. y ∷ zs) n.parts; place = ap suc n.place }
 
 -- pieces with a block each
+abbrev block_piece : {X : Type 0} → (X → ℕ) → (X → List ℕ) → X → Piece
+block_piece lead content x = record { slot = 0; lead = Some (lead x); bytes = content x }
+
 abbrev blocks : {X : Type 0} → (X → ℕ) → (X → List ℕ) → List X → List Piece
-blocks lead content xs = map (λ x. record { slot = 0; lead = Some (lead x); bytes = content x }) xs
+blocks lead content xs = map (block_piece lead content) xs
 
 fixed-blocks : {X : Type 0} (lead : X → ℕ) (content : X → List ℕ) (xs : List X) → sum_by fixed_size (blocks lead content xs) ≡ 4 * length xs
 fixed-blocks lead content [] = refl
@@ -94,7 +93,7 @@ element_back b v base lead content xs i x first h short got le =
     let front = blocks lead content n.front in
     let p : Piece = record { slot = 0; lead = Some (lead x); bytes = content x } in
     let rest = blocks lead content n.rest in
-    let apart : ps ≡ front ++ p ∷ rest = ap (blocks lead content) n.parts ∙ map-append (λ y. record { slot = 0; lead = Some (lead y); bytes = content y }) n.front (x ∷ n.rest) in
+    let apart : ps ≡ front ++ p ∷ rest = ap (blocks lead content) n.parts ∙ map-append (block_piece lead content) n.front (x ∷ n.rest) in
     let stands = subst (λ (qs : List Piece). IsAt b (base + 4) (body qs)) apart h in
     let qs = front ++ p ∷ rest in
     let the_cells = at_left b (base + 4) (cells 4 (fixed_len qs) qs) (flat_map tail qs) stands in
@@ -128,19 +127,24 @@ table_element_back b v base ws i qs first h short got order =
     let t = block_stands b e.start qs e.stands short order in
     record { table = t.table; found = rw e.found t.found; stands = t.stands }
 
--- ---- what is counted of the elements of a vector
+-- a vector of blocks
+blocks_back : {X : Type 0} (b : List ℕ) (t : Table) (ps : List Piece) (k : ℕ) (lead : X → ℕ) (content : X → List ℕ) (xs : List X) → Stands b t ps
+    → piece_at k ps ≡ Some (written.vector k (blocks lead content xs)) → IsVectorField b (vector_field b t k Offsets) (length xs) (body (blocks lead content xs))
+blocks_back b t ps k lead content xs h found =
+    let qs = blocks lead content xs in
+    let as_many : length qs ≡ length xs = length-map xs (block_piece lead content) in
+    let size = length-append (cells 4 (fixed_len qs) qs) (flat_map tail qs) in
+    let long = length-cells 4 (fixed_len qs) qs in
+    let fixed = fixed-blocks lead content xs in
+    let counted : piece_at k ps ≡ Some (record { slot = k; lead = Some 0; bytes = counted_block (length xs) (body qs) }) = found ∙ ap (λ n. let p : Option Piece = Some (record { slot = k; lead = Some 0; bytes = counted_block n (body qs) }) in p) as_many in
+    vector_back b t ps k (length xs) (body qs) Offsets h counted (omega (arith, size, long, fixed)) (omega (arith, size, long, fixed))
 
-max-zero : (n : ℕ) → max n 0 ≡ n
-max-zero n = omega arith
+pub texts_back : (b : List ℕ) (t : Table) (ps : List Piece) (k : ℕ) (ts : List (List ℕ)) → Stands b t ps → piece_at k ps ≡ Some (written.texts k ts) → AreTexts b (vector_field b t k Offsets) ts
+texts_back b t ps k ts h found =
+    let v = blocks_back b t ps k (λ _. 0) text_block ts h found in
+    record { vector = v.vector; found = v.found; as_many = v.as_many; each = λ i s got utf8. text_element_back b v.vector v.start ts i s v.first v.stands h.short got utf8 }
 
-sum-next : {A : Type 0} (c : Counted A) (cs : List (Counted A)) → sum_by (λ d. d.visits) (c ∷ cs) ≡ c.visits + (sum_by (λ d. d.visits) cs + 0)
-sum-next c cs = sum_by-cons (λ d. d.visits) c cs ∙ ap (λ n. c.visits + n) (sym (add-zero (sum_by (λ d. d.visits) cs)))
-
-pub each_back : {A : Type 0} (read : ℕ → Option (Counted A)) (cs : List (Counted A)) (j : ℕ)
-    → ((i : ℕ) (c : Counted A) → slice_get cs i ≡ Some c → read (j + i) ≡ Some c) → each_from read (length cs) j ≡ Some (together cs)
-unfolding each_from ◌>>=◌ pure
-each_back read [] j h = refl
-each_back {A = A} read (c ∷ cs) j h =
-    let head : read j ≡ Some c = ap read (sym (add-zero j)) ∙ h 0 c refl in
-    let rest = each_back read cs (j + 1) (λ i d got. ap read (let e : j + 1 + i ≡ j + suc i = omega arith in e) ∙ h (suc i) d got) in
-    rw (head, rest, max-zero (deepest cs)) (ap (λ (n : ℕ). let found : Option (Counted (List A)) = Some (record { value = map (λ d. d.value) (c ∷ cs); visits = n; levels = deepest (c ∷ cs) }) in found) (sym (sum-next c cs)))
+pub tables_back : (b : List ℕ) (t : Table) (ps : List Piece) (k : ℕ) (ws : List (List Piece)) → Stands b t ps → piece_at k ps ≡ Some (written.tables k ws) → AreTables b (vector_field b t k Offsets) ws
+tables_back b t ps k ws h found =
+    let v = blocks_back b t ps k vtable_size block ws h found in
+    record { vector = v.vector; found = v.found; as_many = v.as_many; each = λ i qs got order. table_element_back b v.vector v.start ws i qs v.first v.stands h.short got order }

@@ -6,6 +6,7 @@ mod blocks;
 mod elements;
 mod elements_block;
 mod piece;
+mod read_back;
 mod table_error;
 mod table_reader;
 mod table_writer;
@@ -15,6 +16,7 @@ mod wire;
 
 pub use bad_table::BadTable;
 pub use elements::Elements;
+pub use read_back::written_is_read_back;
 pub use table_error::TableError;
 pub use table_reader::TableReader;
 pub use table_writer::TableWriter;

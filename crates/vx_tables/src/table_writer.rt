@@ -1,5 +1,7 @@
 ghost use Rattle.std.specs.Prelude.{◌≡◌, ◌≤◌, ◌<◌, ◌+◌, ◌^◌, ◌∷◌, [], ◌++◌, if◌then◌else◌, is_ok, map, string_bytes, IfOk, OnOk, length, List, ℕ};
 ghost use Rattle.std.specs.Int.{w8, w16, w32, w64};
+ghost use Rattle.vx_tables.specs.Field.{root};
+ghost use Rattle.vx_tables.specs.Standing.{IsTableAt};
 ghost use Rattle.vx_tables.specs.Writing.{Finishes};
 ghost use Rattle.vx_tables.specs.Block.{Piece as WrittenPiece, slot_count, number, size_of, text, bytes, numbers, texts, segments, table, tables, root_bytes};
 
@@ -184,9 +186,11 @@ impl TableWriter {
         })
     }
 
-    /// The bytes of the root, without padding.
+    /// The bytes of the root, without padding. A reader finds the table in them.
+    #[tactic(auto, using(crate::proofs::ReadTexts::root_back))]
     pub fn finish(self, alloc: Global) -> Result<ByteBuffer, TableError>
-        ensures { Finishes result (root_bytes self) }
+        ensures value { Finishes result (root_bytes self) }
+        ensures back { IfOk result (λ b. IsTableAt b.bytes (root b.bytes) self) }
     {
         let mut content = Vec::new(alloc);
         push_low(&mut content, 4 + vtable_size_of(&self.pieces))?;
