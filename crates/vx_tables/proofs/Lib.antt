@@ -2,7 +2,7 @@ pub mod Order
 pub mod Parts
 pub mod Places
 pub mod ReadAll
-pub mod ReadCounted
+pub mod Reading
 pub mod ReadBack
 pub mod ReadTexts
 pub mod ReadVectors

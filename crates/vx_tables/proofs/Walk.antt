@@ -4,7 +4,7 @@ use Rattle.std.specs.Prelude.{nat_le}
 use Rattle.std.specs.Option.{option_map}
 use Rattle.std.proofs.lemmas.Bool.Decides.{nat_tests}
 use Rattle.std.proofs.lemmas.List.{append-nil}
-use Rattle.vx_tables.specs.Counted.{Counted, both, ◌>>=◌, pure, counted, free, deeper, within, enter, enter_optional, present, each_from, most_levels, most_visits, allowed, one, optional_cost}
+use Rattle.vx_tables.specs.Counted.{Counted, both, ◌>>=◌, pure, counted, free, deeper, within, enter, enter_optional, present, each_from, one, optional_cost}
 use Rattle.vx_tables.specs.Field.{Table, ◌>>=◌ as ◌then◌}
 use Rattle.vx_tables.specs.Reader.{charge, reached, reached_optional}
 
@@ -172,8 +172,3 @@ present-is l n (Some x) = within-pure l n x
 
 -- the laws by which a walk is read step by step
 pub ruleset walk_steps = (within-bind, within-pure, within-counted, within-free, present-is, within-enter, within-enter_optional, walk_from-start, walk_from-next, walk_from-end)
-
--- a whole root that keeps the limits
-pub allowed_is : {A : Type 0} (c : Counted A) → c.visits ≤ most_visits → c.levels ≤ most_levels → allowed (Some c) ≡ Some c.value
-unfolding within
-allowed_is c few low = grind (arith, nat_tests)

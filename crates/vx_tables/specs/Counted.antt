@@ -1,6 +1,6 @@
 -- What is read, with how much of a table root was visited for it. Limits are no part of it: they are one
 -- test at the end.
-use Rattle.std.specs.Prelude.{ℕ, zero, suc, ◌+◌, ◌-◌, ◌*◌, ◌/◌, nat_le, max, if◌then◌else◌, List, [], ◌∷◌, length, map, sum_by, Option, Some, None}
+use Rattle.std.specs.Prelude.{ℕ, zero, suc, ◌+◌, ◌-◌, ◌*◌, ◌/◌, nat_le, max, if◌then◌else◌, List, [], ◌∷◌, length, Option, Some, None}
 use Rattle.vx_tables.specs.declared.elements.Elements.{Elements}
 use Rattle.vx_tables.specs.declared.elements.Elements.TheVariants.{Numbers, Offsets, Segments}
 use Rattle.vx_tables.specs.Field.{Table, Vector, text_of_vector, table_of_vector}
@@ -77,19 +77,6 @@ present None = None
 present (Some x) = pure x
 
 -- ---- vectors of offsets
-
--- the deepest of several
-abbrev pub deepest : {A : Type 0} → List (Counted A) → ℕ
-deepest [] = 0
-deepest (c ∷ cs) = max c.levels (deepest cs)
-
--- all of several, one after the other
-abbrev pub together : {A : Type 0} → List (Counted A) → Counted (List A)
-together cs = record { value = map (λ c. c.value) cs; visits = sum_by (λ c. c.visits) cs; levels = deepest cs }
-
--- the same inside a table
-abbrev pub one_deeper : {A : Type 0} → Counted A → Counted A
-one_deeper c = record { value = c.value; visits = c.visits + 1; levels = c.levels + 1 }
 
 -- the next so many elements, from one on
 unfoldable pub each_from : {A : Type 0} → (ℕ → Option (Counted A)) → ℕ → ℕ → Option (Counted (List A))
