@@ -2,7 +2,6 @@
 use Rattle.std.proofs.Common.{◌≡◌, ℕ, zero, suc, ◌+◌, ◌-◌, ◌*◌, ◌≤◌, ◌<◌, max, true, List, [], ◌∷◌, length, map, sum_by, Option, Some, None, refl, sym, ap, subst, ◌∙◌, arith, zero-add, add-zero, ◌⊎◌}
 use Rattle.std.specs.Prelude.{slice_get}
 use Rattle.std.specs.Option.{option_map}
-use Rattle.std.specs.Str.{is_utf8}
 use Rattle.std.proofs.lemmas.Bool.Decides.{nat_tests}
 use Rattle.std.proofs.lemmas.List.{length-map}
 use Rattle.std.proofs.lemmas.List.Sums.{sum_by-cons}
@@ -10,7 +9,7 @@ use Rattle.std.proofs.lemmas.Option.{slice_get-map}
 use Rattle.vx_tables.specs.Block.{Piece, in_order}
 use Rattle.vx_tables.specs.Counted.{Counted, ◌>>=◌, pure, counted, free, present, one, text_cost, deeper, enter, enter_optional, each_from, each_table, each_text, or_empty, most_levels, most_visits, within, allowed}
 use Rattle.vx_tables.specs.Field.{Table, Vector, text_of_vector, table_of_vector}
-use Rattle.vx_tables.specs.Standing.{Stands, AreTexts, AreTables}
+use Rattle.vx_tables.specs.Standing.{Stands, AreUtf8, AreTexts, AreTables}
 
 -- the value, the visits and the levels that are read
 abbrev pub Reads : {A : Type 0} → Option (Counted A) → A → ℕ → ℕ → Type 0
@@ -92,7 +91,7 @@ reads_each read value visits levels xs count e h =
     ap (λ n. each_from read n 0) e ∙ each-from read value visits levels xs 0 (λ i x got. ap read (zero-add i) ∙ h i x got)
 
 -- texts that were written
-pub reads_texts : (b : List ℕ) (read : Option (Option Vector)) (ts : List (List ℕ)) (texts : AreTexts b read ts) → ((i : ℕ) (s : List ℕ) → slice_get ts i ≡ Some s → is_utf8 s ≡ true)
+pub reads_texts : (b : List ℕ) (read : Option (Option Vector)) (ts : List (List ℕ)) (texts : AreTexts b read ts) → AreUtf8 ts
     → Reads (each_text b texts.vector) (map (λ s. s) ts) (sum_by text_cost ts) (deepest (λ s. 0) ts)
 unfolding each_text
 reads_texts b read ts texts utf8 =

@@ -3,6 +3,7 @@ use Rattle.std.proofs.Common.{◌≡◌, List, [], ◌∷◌, ℕ, zero, suc, Bo
 use Rattle.std.specs.Prelude.{String, string_bytes, slice_get}
 use Rattle.std.specs.Global.{Global}
 use Rattle.std.specs.Str.{is_utf8, IsUtf8}
+use Rattle.vx_tables.specs.Standing.{AreUtf8}
 use Rattle.std.proofs.lemmas.Grind.{not_there}
 use Rattle.std.proofs.lemmas.Str.{IsUtf8-from_is_utf8, is_utf8-from_IsUtf8}
 
@@ -22,7 +23,7 @@ sure false h = absurd (h (λ e. cc))
 pub string_is_utf8 : (s : String Global) → is_utf8 (string_bytes s) ≡ true
 string_is_utf8 s = sure (is_utf8 (string_bytes s)) (λ no. not_there s.ok (λ p. no (is_text (string_bytes s) p)))
 
-pub strings_are_utf8 : (ss : List (String Global)) (i : ℕ) (t : List ℕ) → slice_get (map string_bytes ss) i ≡ Some t → is_utf8 t ≡ true
+pub strings_are_utf8 : (ss : List (String Global)) → AreUtf8 (map string_bytes ss)
 strings_are_utf8 [] i t h = absurd cc
 strings_are_utf8 (s ∷ ss) zero t h = let same : string_bytes s ≡ t = cc in subst (λ (x : List ℕ). is_utf8 x ≡ true) same (string_is_utf8 s)
 strings_are_utf8 (s ∷ ss) (suc i) t h = strings_are_utf8 ss i t h

@@ -30,6 +30,10 @@ abbrev pub piece_at : ℕ → List Piece → Option Piece
 piece_at k [] = None
 piece_at k (p ∷ ps) = if p.slot == k then Some p else piece_at k ps
 
+-- all of these are texts
+abbrev pub AreUtf8 : List (List ℕ) → Type 0
+AreUtf8 ts = (i : ℕ) (s : List ℕ) → slice_get ts i ≡ Some s → is_utf8 s ≡ true
+
 -- ---- what is found
 
 -- a table, where these pieces stand
