@@ -1,9 +1,8 @@
 -- Tables whose slots rise.
-use Rattle.std.proofs.Common.{◌≡◌, ℕ, ◌+◌, ◌*◌, ◌≤◌, ◌<◌, Bool, true, false, ◌&&◌, List, [], ◌∷◌, ◌++◌, sum_by, refl, arith}
-use Rattle.std.specs.Prelude.{nat_le, nat_lt}
+use Rattle.std.proofs.Common.{◌≡◌, ℕ, ◌+◌, ◌*◌, ◌≤◌, ◌<◌, true, List, [], ◌∷◌, ◌++◌, sum_by, arith}
 use Rattle.std.proofs.lemmas.Bool.Decides.{nat_tests}
 use Rattle.std.proofs.lemmas.List.Sums.{sum_by-cons}
-use Rattle.vx_tables.specs.Block.{Piece, fixed_size, fixed_len, in_order, slots_from, slot_count}
+use Rattle.vx_tables.specs.Block.{Piece, fixed_size, fixed_len, in_order, slots_from}
 
 -- what a piece at the front of an ordered list tells
 pub record IsFirst (next : ℕ) (p : Piece) (ps : List Piece) : Type 0 where

@@ -1,9 +1,9 @@
 -- The parts of a block, cut where a piece stands.
-use Rattle.std.proofs.Common.{◌≡◌, ℕ, ◌+◌, ◌-◌, ◌*◌, ◌≤◌, ◌<◌, true, List, [], ◌∷◌, ◌++◌, length, replicate, sum_by, Option, Some, None, refl, sym, ap, ◌∙◌, append_assoc, add_assoc, add-zero, arith, length-append}
+use Rattle.std.proofs.Common.{◌≡◌, ℕ, ◌+◌, ◌-◌, ◌*◌, ◌≤◌, true, List, [], ◌∷◌, ◌++◌, length, replicate, sum_by, Option, Some, None, refl, sym, ap, ◌∙◌, append_assoc, add-zero, arith, length-append}
 use Rattle.std.specs.List.{flat_map}
 use Rattle.std.proofs.lemmas.List.Sums.{sum_by-cons}
 use Rattle.std.proofs.lemmas.List.{length-replicate}
-use Rattle.vx_tables.specs.Block.{Piece, low, u16_bytes, u32_bytes, size_of, fixed_size, tail_of, tail, cell_of, cell, cells, fixed_len, slots_from, vtable_size, entries, vtable, in_order}
+use Rattle.vx_tables.specs.Block.{Piece, u16_bytes, size_of, fixed_size, tail, cell_of, cell, cells, slots_from, entries, in_order}
 use Rattle.vx_tables.proofs.Order.{first_of_order, order_cons}
 
 abbrev pub tail_size : Piece → ℕ

@@ -1,5 +1,5 @@
 -- Each field of a written table is read back.
-use Rattle.std.proofs.Common.{◌≡◌, ℕ, ◌<◌, ◌^◌, List, Option, Some, None, arith}
+use Rattle.std.proofs.Common.{ℕ, ◌<◌, List, arith}
 use Rattle.std.specs.Int.{Width, w8, w16, w32, w64, w128}
 use Rattle.vx_tables.specs.Block.{Piece}
 use Rattle.vx_tables.specs.Field.{Table}

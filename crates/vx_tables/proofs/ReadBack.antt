@@ -1,14 +1,14 @@
 -- What was written is read back by the field functions.
-use Rattle.std.proofs.Common.{◌≡◌, ℕ, zero, suc, ◌+◌, ◌-◌, ◌*◌, ◌/◌, ◌%◌, ◌≤◌, ◌<◌, ◌^◌, Bool, true, false, ◌&&◌, ◌==◌, cond, List, [], ◌∷◌, ◌++◌, length, replicate, sum_by, Option, Some, None, refl, sym, ap, subst, ◌∙◌, append_assoc, arith, length-append, zero-add, suc-add, ◌≢◌, ne_eqb, inl, inr}
+use Rattle.std.proofs.Common.{◌≡◌, ℕ, zero, suc, ◌+◌, ◌-◌, ◌*◌, ◌/◌, ◌≤◌, ◌<◌, ◌^◌, Bool, true, false, cond, List, [], ◌∷◌, ◌++◌, length, replicate, sum_by, Option, Some, None, refl, sym, ap, subst, ◌∙◌, arith, length-append, zero-add, suc-add, ◌≢◌, ne_eqb, inl, inr}
 use Rattle.std.specs.Prelude.{nat_le, nat_lt, nat_eq}
-use Rattle.std.specs.Int.{Width, w16, w32, to_le_bytes}
+use Rattle.std.specs.Int.{Width, w16, w32}
 use Rattle.std.specs.List.{flat_map}
 use Rattle.std.proofs.lemmas.Bool.{le-leb, lt-ltb, cases_lt}
 use Rattle.std.proofs.lemmas.Grind.{flat_map-append}
 use Rattle.std.proofs.lemmas.List.Sums.{sum_by-cons, sum_by-append}
 use Rattle.std.proofs.lemmas.Bool.Decides.{nat_tests}
-use Rattle.vx_tables.specs.Block.{Piece, low, u16_bytes, u32_bytes, fixed_size, tail, cell, cells, fixed_len, body, slots_from, slot_count, vtable_size, entries, vtable, block, root_bytes, in_order, number}
-use Rattle.vx_tables.specs.Field.{Table, forward, backward, num, target, table_at, root, entry_place, slot, field, target_field, ◌>>=◌ as ◌then◌}
+use Rattle.vx_tables.specs.Block.{Piece, low, u16_bytes, u32_bytes, fixed_size, tail, cell, cells, fixed_len, body, slots_from, slot_count, vtable_size, entries, vtable, block, in_order, number}
+use Rattle.vx_tables.specs.Field.{Table, forward, backward, num, target, table_at, entry_place, slot, field, target_field, ◌>>=◌ as ◌then◌}
 use Rattle.vx_tables.specs.Standing.{IsAt, Stands, piece_at}
 use Rattle.vx_tables.proofs.Order.{first_of_order, fixed_len_fits}
 use Rattle.vx_tables.proofs.Parts.{tail_size, length-cells, length-tails, cells-append, entries-append, slots-append, slots-rise, slots-below, length-entries, length-zeros, order-append, order-rest}
@@ -207,8 +207,8 @@ entry_at b base front p rest order h =
     let apart = at_same b base (entries 4 0 (front ++ p ∷ rest)) (left ++ right) (entries-append 4 0 front (p ∷ rest)) h in
     let from = at_left b (base + length left) (gap ++ u16_bytes at) (entries (at + fixed_size p) (p.slot + 1) rest) (at_right b base left right apart) in
     at_move b (base + length left + length gap) (base + 2 * p.slot) (u16_bytes at)
-        (omega (arith, f.above, length-zeros (2 * (p.slot - next)), length-entries 4 0 front (order-append 0 front (p ∷ rest) order)))
-        (at_right b (base + length left) gap (u16_bytes at) from)
+    (omega (arith, f.above, length-zeros (2 * (p.slot - next)), length-entries 4 0 front (order-append 0 front (p ∷ rest) order)))
+    (at_right b (base + length left) gap (u16_bytes at) from)
 
 slot_count-above : (front : List Piece) (p : Piece) (rest : List Piece) → in_order 0 (front ++ p ∷ rest) ≡ true → p.slot < slot_count (front ++ p ∷ rest)
 slot_count-above front p rest order =

@@ -1,22 +1,17 @@
 -- Texts, tables and vectors are read back.
-use Rattle.std.proofs.Common.{◌≡◌, ℕ, zero, suc, ◌+◌, ◌-◌, ◌*◌, ◌≤◌, ◌<◌, ◌^◌, Bool, true, false, ◌&&◌, cond, List, [], ◌∷◌, ◌++◌, length, map, take, drop, sum_by, Option, Some, None, refl, sym, ap, subst, ◌∙◌, append_assoc, arith, length-append, zero-add}
-use Rattle.std.specs.Prelude.{nat_le, slice_get}
-use Rattle.std.specs.Int.{Width, w16, w32, w64, to_le_bytes}
-use Rattle.std.specs.List.{flat_map}
+use Rattle.std.proofs.Common.{◌≡◌, ℕ, ◌+◌, ◌-◌, ◌*◌, ◌≤◌, ◌<◌, ◌^◌, true, List, [], ◌∷◌, ◌++◌, length, Option, Some, None, refl, sym, ap, ◌∙◌, arith, length-append, zero-add}
+use Rattle.std.specs.Prelude.{nat_le}
+use Rattle.std.specs.Int.{w32}
 use Rattle.std.specs.Str.{is_utf8}
 use Rattle.std.proofs.lemmas.Bool.{le-leb}
 use Rattle.std.proofs.lemmas.List.{append-nil}
-use Rattle.std.proofs.lemmas.List.Sums.{sum_by-cons, sum_by-append}
-use Rattle.vx_base.specs.declared.segment.SegmentSpec.{SegmentSpec}
 use Rattle.vx_tables.specs.declared.elements.Elements.{Elements}
-use Rattle.vx_tables.specs.declared.elements.Elements.TheVariants.{Numbers, Offsets, Segments}
 use Rattle.vx_tables.specs.Block.{Piece, low, u32_bytes, fixed_size, tail, cell, cells, fixed_len, body, vtable_size, block, vtable, root_bytes, in_order, counted_block, segment}
 use Rattle.vx_tables.specs.Block as written
-use Rattle.vx_tables.specs.Field.{Table, Vector, forward, num, target, table_at, root, text, vector, element_size, target_field, text_field, table_field, vector_field, element_target, text_of_vector, table_of_vector, element_bytes, bytes}
+use Rattle.vx_tables.specs.Field.{Table, Vector, forward, num, target, table_at, root, text, vector, element_size, text_field, table_field, vector_field, bytes}
 use Rattle.vx_tables.specs.Standing.{IsAt, Stands, piece_at, IsTableAt, IsTableField}
-use Rattle.vx_tables.proofs.Parts.{tail_size, length-cells}
-use Rattle.vx_tables.proofs.Places.{at_left, at_right, at_move, at_same, at_inside, at_drop, bytes_back}
-use Rattle.vx_tables.proofs.ReadBack.{low_is, num_low, forward_is, IsCut, cut, IsTarget, target_back, target_absent, table_back, length-vtable, vtable_fits}
+use Rattle.vx_tables.proofs.Places.{at_left, at_right, at_move, at_inside, bytes_back}
+use Rattle.vx_tables.proofs.ReadBack.{num_low, forward_is, target_back, target_absent, table_back, length-vtable, vtable_fits}
 
 -- ---- texts
 
@@ -123,4 +118,3 @@ vector_back b t ps k count content elements h found few le =
     let at : g.start + 0 ≡ g.start = omega arith in
     let read = ap (λ n. vector b n elements) at ∙ vector_stands b g.start count content elements g.stands lt le in
     record { vector = record { first = g.start + 4; count = count }; found = rw (g.target, read) refl; as_many = refl; start = g.start; first = refl; stands = elements_at b g.start count content g.stands }
-

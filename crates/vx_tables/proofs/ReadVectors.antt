@@ -1,22 +1,22 @@
 -- Vectors of numbers, bytes and segment structs, and the elements of vectors of texts and tables.
-use Rattle.std.proofs.Common.{◌≡◌, ℕ, zero, suc, ◌+◌, ◌-◌, ◌*◌, ◌≤◌, ◌<◌, ◌^◌, max, Bool, true, false, List, [], ◌∷◌, ◌++◌, length, map, take, drop, sum_by, Option, Some, None, refl, sym, ap, subst, ◌∙◌, append_assoc, arith, length-append, zero-add, add-zero}
+use Rattle.std.proofs.Common.{◌≡◌, ℕ, zero, suc, ◌+◌, ◌-◌, ◌*◌, ◌≤◌, ◌<◌, ◌^◌, true, List, [], ◌∷◌, ◌++◌, length, map, sum_by, Option, Some, refl, sym, ap, subst, ◌∙◌, arith, length-append}
 use Rattle.std.specs.Prelude.{slice_get}
-use Rattle.std.specs.Int.{Width, w32, w64, to_le_bytes}
+use Rattle.std.specs.Int.{w32, to_le_bytes}
 use Rattle.std.specs.List.{flat_map}
 use Rattle.std.specs.Str.{is_utf8}
-use Rattle.std.proofs.lemmas.List.{append-nil, map-append, length-map}
+use Rattle.std.proofs.lemmas.List.{map-append, length-map}
 use Rattle.std.proofs.lemmas.List.Sums.{sum_by-cons, sum_by-append}
 use Rattle.vx_base.specs.declared.segment.SegmentSpec.{SegmentSpec}
 use Rattle.vx_tables.specs.declared.elements.Elements.{Elements}
 use Rattle.vx_tables.specs.declared.elements.Elements.TheVariants.{Numbers, Offsets, Segments}
 use Rattle.vx_tables.specs.Block.{Piece, u32_bytes, fixed_size, tail, cell, cells, fixed_len, body, vtable_size, block, in_order, counted_block, segment}
 use Rattle.vx_tables.specs.Block as written
-use Rattle.vx_tables.specs.Field.{Table, Vector, forward, num, target, table_at, text, element_size, vector_field, element_target, text_of_vector, table_of_vector, element_bytes}
+use Rattle.vx_tables.specs.Field.{Table, Vector, forward, num, target, text, element_size, vector_field, element_target, text_of_vector, table_of_vector}
 use Rattle.vx_tables.specs.Standing.{IsAt, Stands, piece_at, IsTableAt, IsPlainVector, AreTexts, AreTables}
 use Rattle.vx_tables.proofs.Parts.{tail_size, length-cells}
-use Rattle.vx_tables.proofs.Places.{at_left, at_right, at_move, at_same, at_inside, at_drop}
+use Rattle.vx_tables.proofs.Places.{at_left, at_right, at_move, at_inside, at_drop}
 use Rattle.vx_tables.proofs.ReadBack.{num_low, forward_is, cut}
-use Rattle.vx_tables.proofs.ReadTexts.{IsVectorField, vector_back, block_stands, text_block, text_stands, length-block, short_inside}
+use Rattle.vx_tables.proofs.ReadTexts.{IsVectorField, vector_back, block_stands, text_block, text_stands, length-block}
 
 -- ---- vectors without offsets
 

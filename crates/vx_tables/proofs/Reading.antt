@@ -1,5 +1,5 @@
 -- What a grammar reads, with its visits and levels, put together step by step.
-use Rattle.std.proofs.Common.{◌≡◌, ℕ, zero, suc, ◌+◌, ◌-◌, ◌*◌, ◌≤◌, ◌<◌, max, true, List, [], ◌∷◌, length, map, sum_by, Option, Some, None, refl, sym, ap, subst, ◌∙◌, arith, zero-add, add-zero, ◌⊎◌}
+use Rattle.std.proofs.Common.{◌≡◌, ℕ, suc, ◌+◌, ◌≤◌, ◌<◌, max, true, List, [], ◌∷◌, length, map, sum_by, Option, Some, None, refl, sym, ap, subst, ◌∙◌, arith, zero-add, add-zero, ◌⊎◌}
 use Rattle.std.specs.Prelude.{slice_get}
 use Rattle.std.specs.Option.{option_map}
 use Rattle.std.proofs.lemmas.Bool.Decides.{nat_tests}
@@ -7,7 +7,7 @@ use Rattle.std.proofs.lemmas.List.{length-map}
 use Rattle.std.proofs.lemmas.List.Sums.{sum_by-cons}
 use Rattle.std.proofs.lemmas.Option.{slice_get-map}
 use Rattle.vx_tables.specs.Block.{Piece, in_order}
-use Rattle.vx_tables.specs.Counted.{Counted, ◌>>=◌, pure, counted, free, present, one, text_cost, deeper, enter, enter_optional, each_from, each_table, each_text, or_empty, most_levels, most_visits, within, allowed}
+use Rattle.vx_tables.specs.Counted.{Counted, ◌>>=◌, pure, counted, free, present, text_cost, deeper, enter, enter_optional, each_from, each_table, each_text, or_empty, most_levels, most_visits, within, allowed}
 use Rattle.vx_tables.specs.Field.{Table, Vector, text_of_vector, table_of_vector}
 use Rattle.vx_tables.specs.Standing.{Stands, AreUtf8, AreTexts, AreTables}
 
@@ -83,7 +83,7 @@ each-from read value visits levels (x ∷ xs) j h =
     let rest = each-from read value visits levels xs (j + 1) (λ i y got. ap read (let e : j + 1 + i ≡ j + suc i = omega arith in e) ∙ h (suc i) y got) in
     let later = reads_bind (each_from read (length xs) (j + 1)) (λ ys. pure (value x ∷ ys)) (map value xs) (value x ∷ map value xs) (sum_by visits xs) 0 (deepest levels xs) 0 rest refl in
     reads_same _ _ _ _ _ _ (let e : visits x + (sum_by visits xs + 0) ≡ sum_by visits (x ∷ xs) = omega (arith, sum_by-cons visits x xs) in e) (let e : max (levels x) (max (deepest levels xs) 0) ≡ deepest levels (x ∷ xs) = omega arith in e)
-        (reads_bind (read j) (λ y. each_from read (length xs) (j + 1) >>= (λ ys. pure (y ∷ ys))) (value x) (value x ∷ map value xs) (visits x) (sum_by visits xs + 0) (levels x) (max (deepest levels xs) 0) head later)
+    (reads_bind (read j) (λ y. each_from read (length xs) (j + 1) >>= (λ ys. pure (y ∷ ys))) (value x) (value x ∷ map value xs) (visits x) (sum_by visits xs + 0) (levels x) (max (deepest levels xs) 0) head later)
 
 pub reads_each : {X A : Type 0} (read : ℕ → Option (Counted A)) (value : X → A) (visits levels : X → ℕ) (xs : List X) (count : ℕ) → count ≡ length xs
     → ((i : ℕ) (x : X) → slice_get xs i ≡ Some x → Reads (read i) (value x) (visits x) (levels x)) → Reads (each_from read count 0) (map value xs) (sum_by visits xs) (deepest levels xs)
@@ -96,7 +96,7 @@ pub reads_texts : (b : List ℕ) (read : Option (Option Vector)) (ts : List (Lis
 unfolding each_text
 reads_texts b read ts texts utf8 =
     reads_each (λ i. counted text_cost (text_of_vector b texts.vector i)) (λ s. s) text_cost (λ s. 0) ts texts.vector.count texts.as_many
-        (λ i s got. reads_counted text_cost (text_of_vector b texts.vector i) s (texts.each i s got (utf8 i s got)))
+    (λ i s got. reads_counted text_cost (text_of_vector b texts.vector i) s (texts.each i s got (utf8 i s got)))
 
 -- tables that were written: pieces says how a value is written
 pub reads_tables : {X A : Type 0} (b : List ℕ) (read : Option (Option Vector)) (xs : List X) (pieces : X → List Piece) (value : X → A) (visits levels : X → ℕ) (inner : Table → Option (Counted A))
@@ -107,10 +107,10 @@ pub reads_tables : {X A : Type 0} (b : List ℕ) (read : Option (Option Vector))
 unfolding each_table
 reads_tables b read xs pieces value visits levels inner tables order back =
     reads_each (λ i. enter (table_of_vector b tables.vector i) inner) value (λ x. visits x + 1) (λ x. levels x + 1) xs tables.vector.count (tables.as_many ∙ length-map xs pieces)
-        (λ i x got.
-            let there : slice_get (map pieces xs) i ≡ Some (pieces x) = slice_get-map pieces xs i ∙ ap (option_map pieces) got in
-            let t = tables.each i (pieces x) there (order i x got) in
-            reads_enter (table_of_vector b tables.vector i) t.table inner (value x) (visits x) (levels x) t.found (back t.table i x got t.stands))
+    (λ i x got.
+    let there : slice_get (map pieces xs) i ≡ Some (pieces x) = slice_get-map pieces xs i ∙ ap (option_map pieces) got in
+    let t = tables.each i (pieces x) there (order i x got) in
+    reads_enter (table_of_vector b tables.vector i) t.table inner (value x) (visits x) (levels x) t.found (back t.table i x got t.stands))
 
 -- ---- the whole root
 

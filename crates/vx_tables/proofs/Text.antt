@@ -1,6 +1,6 @@
 -- UTF-8 as a test.
-use Rattle.std.proofs.Common.{◌≡◌, List, [], ◌∷◌, ℕ, zero, suc, Bool, true, false, Some, map, refl, subst}
-use Rattle.std.specs.Prelude.{String, string_bytes, slice_get}
+use Rattle.std.proofs.Common.{◌≡◌, List, [], ◌∷◌, ℕ, zero, suc, Bool, true, false, map, refl, subst}
+use Rattle.std.specs.Prelude.{String, string_bytes}
 use Rattle.std.specs.Global.{Global}
 use Rattle.std.specs.Str.{is_utf8, IsUtf8}
 use Rattle.vx_tables.specs.Standing.{AreUtf8}

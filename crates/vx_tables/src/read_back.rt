@@ -8,5 +8,4 @@ ghost use Rattle.vx_tables.specs.Standing.{Stands, ReadsBack};
 #[tactic(auto, using(crate::proofs::ReadAll::reads_back))]
 pub fn written_is_read_back()
     ensures { (b : List ℕ) (t : Table) (ps : List WrittenPiece) → Stands b t ps → ReadsBack b t ps }
-{
-}
+{}

@@ -7,7 +7,8 @@ ghost use Rattle.vx_tables.specs.Block.{Piece as WrittenPiece, slot_count, numbe
 
 use crate::blocks::{push_block, push_low, vtable_size_of};
 use crate::elements_block::{
-    bytes_block_of, numbers_block_of, segments_block_of, text_block_of, texts_block_of, vector_block_of,
+    bytes_block_of, numbers_block_of, segments_block_of, text_block_of, texts_block_of,
+    vector_block_of,
 };
 use crate::piece::Piece;
 use crate::table_error::TableError;
@@ -119,7 +120,12 @@ impl TableWriter {
     }
 
     /// Adds a vector of u32.
-    pub fn push_numbers(&mut self, alloc: Global, slot: usize, value: &[u32]) -> Result<(), AllocError>
+    pub fn push_numbers(
+        &mut self,
+        alloc: Global,
+        slot: usize,
+        value: &[u32],
+    ) -> Result<(), AllocError>
         requires above { slot_count self.old ≤ slot }
         requires below { slot < 1024 }
         ensures { self.new ≡ (if is_ok result then self.old ++ numbers slot value.now ∷ [] else self.old) }
@@ -129,7 +135,12 @@ impl TableWriter {
     }
 
     /// Adds a vector of texts.
-    pub fn push_texts(&mut self, alloc: Global, slot: usize, value: &[String]) -> Result<(), AllocError>
+    pub fn push_texts(
+        &mut self,
+        alloc: Global,
+        slot: usize,
+        value: &[String],
+    ) -> Result<(), AllocError>
         requires above { slot_count self.old ≤ slot }
         requires below { slot < 1024 }
         ensures { self.new ≡ (if is_ok result then self.old ++ texts slot (map string_bytes value.now) ∷ [] else self.old) }
@@ -139,7 +150,12 @@ impl TableWriter {
     }
 
     /// Adds a vector of segment structs.
-    pub fn push_specs(&mut self, alloc: Global, slot: usize, value: &[SegmentSpec]) -> Result<(), AllocError>
+    pub fn push_specs(
+        &mut self,
+        alloc: Global,
+        slot: usize,
+        value: &[SegmentSpec],
+    ) -> Result<(), AllocError>
         requires above { slot_count self.old ≤ slot }
         requires below { slot < 1024 }
         ensures { self.new ≡ (if is_ok result then self.old ++ segments slot value.now ∷ [] else self.old) }
@@ -149,7 +165,12 @@ impl TableWriter {
     }
 
     /// Adds a table.
-    pub fn push_table(&mut self, alloc: Global, slot: usize, value: TableWriter) -> Result<(), AllocError>
+    pub fn push_table(
+        &mut self,
+        alloc: Global,
+        slot: usize,
+        value: TableWriter,
+    ) -> Result<(), AllocError>
         requires above { slot_count self.old ≤ slot }
         requires below { slot < 1024 }
         ensures { self.new ≡ (if is_ok result then self.old ++ table slot value ∷ [] else self.old) }
@@ -160,7 +181,12 @@ impl TableWriter {
     }
 
     /// Adds a vector of tables.
-    pub fn push_tables(&mut self, alloc: Global, slot: usize, value: Vec<TableWriter>) -> Result<(), AllocError>
+    pub fn push_tables(
+        &mut self,
+        alloc: Global,
+        slot: usize,
+        value: Vec<TableWriter>,
+    ) -> Result<(), AllocError>
         requires above { slot_count self.old ≤ slot }
         requires below { slot < 1024 }
         ensures { self.new ≡ (if is_ok result then self.old ++ tables slot value.items ∷ [] else self.old) }
