@@ -22,3 +22,6 @@ pub use table_reader::TableReader;
 pub use table_writer::TableWriter;
 pub use vector_reader::VectorReader;
 pub use visits::Visits;
+
+#[cfg(test)]
+mod tests;
