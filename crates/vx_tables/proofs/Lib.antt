@@ -1,2 +1,10 @@
+pub mod Order
+pub mod Parts
+pub mod Places
+pub mod ReadAll
+pub mod Reading
+pub mod ReadBack
+pub mod ReadTexts
+pub mod ReadVectors
 pub mod Walk
 pub mod Text

@@ -1,3 +1,6 @@
+pub mod Block
 pub mod Field
+pub mod Standing
+pub mod Writing
 pub mod Counted
 pub mod Reader

@@ -2,14 +2,26 @@
 #![tactic(auto)]
 
 mod bad_table;
+mod blocks;
 mod elements;
+mod elements_block;
+mod piece;
+mod read_back;
+mod table_error;
 mod table_reader;
+mod table_writer;
 mod vector_reader;
 mod visits;
 mod wire;
 
 pub use bad_table::BadTable;
 pub use elements::Elements;
+pub use read_back::written_is_read_back;
+pub use table_error::TableError;
 pub use table_reader::TableReader;
+pub use table_writer::TableWriter;
 pub use vector_reader::VectorReader;
 pub use visits::Visits;
+
+#[cfg(test)]
+mod tests;
