@@ -1,5 +1,5 @@
 //! Lists inside a footer.
-ghost use Rattle.std.specs.Prelude.{◌≡◌, ◌++◌, ◌∷◌, [], ◌<◌, ◌^◌, length, map, slice_get, is_ok, if◌then◌else◌, string_bytes};
+ghost use Rattle.std.specs.Prelude.{◌≡◌, ◌++◌, ◌∷◌, [], ◌<◌, length, slice_get, Some, is_ok, if◌then◌else◌, string_bytes};
 ghost use Rattle.std.specs.Option.{option_map};
 
 use std::alloc::{AllocFailed, Global};
@@ -76,6 +76,14 @@ impl TextList {
             Some(text) => Some(text.as_str()),
             None => None,
         }
+    }
+
+    /// The text at a place of the list.
+    pub fn text_at(&self, at: usize) -> &str
+        requires { at < length self.now }
+        ensures { slice_get self.now at ≡ Some result.now }
+    {
+        self.texts[at].as_str()
     }
 
     /// Adds a text at the end. Without memory nothing changes.

@@ -1,12 +1,13 @@
 -- The script that a text spells: one step a line.
-use Rattle.std.specs.Prelude.{◌+◌, ◌*◌, ◌-◌, ◌^◌, ◌≡◌, ◌++◌, ℕ, Bool, false, ◌&&◌, length, ◌==◌, nat_lt, if◌then◌else◌, List, [], ◌∷◌, Option, Some, None, Result, Ok, Err, Vec}
+use Rattle.std.specs.Prelude.{◌+◌, ◌*◌, ◌-◌, ◌^◌, ◌≡◌, ◌++◌, ℕ, Bool, false, ◌&&◌, length, codes, ◌==◌, nat_lt, if◌then◌else◌, List, [], ◌∷◌, Option, Some, None, Result, Ok, Err, Vec}
 use Rattle.std.specs.List.{list_all}
 use Rattle.std.specs.Char.{is_ascii_digit}
+use Rattle.std.specs.Str.{bytes_eq}
 use Rattle.std.specs.declared.alloc.Global.{Global}
 use Rattle.vx_main.specs.declared.script.ScriptError.{ScriptError}
 use Rattle.vx_main.specs.declared.script.ScriptError.TheVariants.{Line, OutOfMemory}
 use Rattle.vx_file.specs.declared.Step.{Step}
-use Rattle.vx_file.specs.declared.Step.TheVariants.{Register, Poll}
+use Rattle.vx_file.specs.declared.Step.TheVariants.{Register, Poll, Drive}
 
 -- digits without a leading zero: one spelling for each number
 abbrev pub is_plain : List ℕ → Bool
@@ -30,16 +31,19 @@ abbrev pub poll_of : Option ℕ → Option Step
 poll_of None = None
 poll_of (Some number) = Some (Poll number)
 
--- `r SEGMENT` registers, `p NUMBER` polls
-unfoldable pub step_of : List ℕ → Option Step
-step_of [] = None
-step_of (letter ∷ []) = None
-step_of (letter ∷ space ∷ digits) =
+abbrev pub numbered_step : List ℕ → Option Step
+numbered_step [] = None
+numbered_step (letter ∷ []) = None
+numbered_step (letter ∷ space ∷ digits) =
     if space == 32 then
-    (if letter == 114 then register_of (number_of digits)
-    else if letter == 112 then poll_of (number_of digits)
-    else None)
+        (if letter == 114 then register_of (number_of digits)
+        else if letter == 112 then poll_of (number_of digits)
+        else None)
     else None
+
+-- `r SEGMENT` registers, `p NUMBER` polls, `go` drives
+unfoldable pub step_of : List ℕ → Option Step
+step_of line = if bytes_eq line (codes "go") then Some Drive else numbered_step line
 
 -- a byte before the first of some lines
 abbrev pub onto_first : ℕ → List (List ℕ) → List (List ℕ)

@@ -1,6 +1,7 @@
 //! The program `vx`.
 #![tactic(auto)]
 
+mod render;
 mod script;
 
 use std::io;

@@ -3,10 +3,12 @@
 ghost use Rattle.std.specs.Prelude.{◌≡◌, ℕ, ◌+◌, ◌<◌, ◌≤◌, ◌∷◌, [], List, length, drop};
 ghost use Rattle.std.specs.List.{list_all};
 ghost use Rattle.std.specs.Char.{is_ascii_digit};
-ghost use Rattle.vx_main.specs.Script.{number_of, register_of, poll_of, step_of, lines_of, line_length, is_plain as is_plain_text, script_of, Reads};
+ghost use Rattle.vx_main.specs.Script.{number_of, register_of, poll_of, numbered_step, step_of, lines_of, line_length, is_plain as is_plain_text, script_of, Reads};
 
 use std::alloc::{AllocError, AllocFailed, Global};
 use vx_file::Step;
+
+const GO: &[u8] = b"go";
 
 /// Why a script could not be read.
 #[derive(Clone, Copy, Debug, PartialEq, Eq)]
@@ -77,10 +79,9 @@ fn poll(number: Option<u64>) -> Option<Step>
     Some(Step::Poll(number?))
 }
 
-/// The step that a line spells.
-#[tactic(auto, unfolding(crate::specs::Script::step_of))]
-fn step(line: &[u8]) -> Option<Step>
-    ensures { result ≡ step_of line.now }
+/// The step that a letter and a number spell.
+fn numbered(line: &[u8]) -> Option<Step>
+    ensures { result ≡ numbered_step line.now }
 {
     let [letter, space, digits @ ..] = line else {
         return None;
@@ -93,6 +94,17 @@ fn step(line: &[u8]) -> Option<Step>
         b'p' => poll(number(digits)),
         _ => None,
     }
+}
+
+/// The step that a line spells.
+#[tactic(auto, unfolding(crate::specs::Script::step_of))]
+fn step(line: &[u8]) -> Option<Step>
+    ensures { result ≡ step_of line.now }
+{
+    if line == GO {
+        return Some(Step::Drive);
+    }
+    numbered(line)
 }
 
 /// How many bytes stand before the first line feed.
