@@ -1,2 +1,6 @@
+pub mod Command
+pub mod Reading
 pub mod Render
+pub mod Run
 pub mod Script
+pub mod Streams

@@ -1,7 +1,13 @@
 //! The program `vx`.
 #![tactic(auto)]
 
+mod command;
+mod failure;
+mod input;
+mod output;
 mod render;
+mod repeats;
+mod run;
 mod script;
 
 use std::io;

@@ -10,7 +10,7 @@ use vx_file::{Fault, Place, Reply, Served, Span, SpanOutcome};
 use vx_footer::{Footer, PType, TextList};
 
 /// Adds the digits of a number.
-fn put_number(text: &mut Vec<u8>, number: u64) -> Result<(), AllocError>
+pub(crate) fn put_number(text: &mut Vec<u8>, number: u64) -> Result<(), AllocError>
     ensures { OnOk result (text.new.items ≡ text.old.items ++ decimal number) }
 {
     let mut buffer = Buffer::new();
@@ -18,7 +18,7 @@ fn put_number(text: &mut Vec<u8>, number: u64) -> Result<(), AllocError>
 }
 
 /// Adds numbers, each after a space.
-fn put_numbers(text: &mut Vec<u8>, numbers: &[u64]) -> Result<(), AllocError>
+pub(crate) fn put_numbers(text: &mut Vec<u8>, numbers: &[u64]) -> Result<(), AllocError>
     ensures { OnOk result (text.new.items ≡ text.old.items ++ numbers_after numbers.now) }
 {
     for number in numbers {

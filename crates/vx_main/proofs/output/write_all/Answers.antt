@@ -1,0 +1,11 @@
+use Rattle.std.proofs.Common.{◌≡◌, ◌∙◌, ◌+◌, ◌-◌, ◌<◌, ◌≤◌, ap, sym, subst, arith, length, take, drop, length-drop, rules}
+use Rattle.std.proofs.lemmas.List.{drop-drop}
+use Rattle.vx_main.specs.Streams.{Took}
+use Rattle.vx_main.proofs.Streaming.{took-more, write-turn}
+use Rattle.vx_main.proofs.output.write_all.Goals as goal
+
+pub loop-rest-preserved : goal.loop-rest-preserved
+loop-rest-preserved g c =
+    let invariant = c.loop-rest.invariant in
+    let turn = write-turn c.args.bytes.now c.loop-rest.rest.now c.rest_of-rest.result.now c.in_ok-n.n _ _ _ invariant.rest invariant.fewer invariant.took c.in_ok-n.ensures.bound c.rest_of-rest.ensures c.in_ok-n.ensures.taken in
+    record { rest = turn.rest; fewer = turn.fewer; took = turn.took; never_falls = omega (arith, invariant.never_falls, c.in_ok-n.ensures.never_falls) }

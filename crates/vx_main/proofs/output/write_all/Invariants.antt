@@ -1,0 +1,16 @@
+use Rattle.std.proofs.Common.{◌≡◌, ◌≤◌, ◌-◌, length, take, drop}
+use Rattle.vx_main.specs.Streams.{Took}
+use Rattle.vx_main.proofs.output.write_all.Given as goal
+
+abbrev pub invariant-loop-rest : goal.invariant-loop-rest
+invariant-loop-rest g l =
+    let S = g.S.Sink in
+    record {
+      rest : l.rest ≡ drop (length l.fn.bytes - length l.rest) l.fn.bytes;
+      fewer : length l.rest ≤ length l.fn.bytes;
+      took : Took (take (length l.fn.bytes - length l.rest) l.fn.bytes) (S.gained l.fn.sink) (S.gained l.sink);
+      never_falls : S.faults l.fn.sink ≤ S.faults l.sink;
+    }
+
+abbrev pub decreases-loop-rest : goal.decreases-loop-rest
+decreases-loop-rest g l = length l.rest

@@ -1,0 +1,7 @@
+use Rattle.std.proofs.Common.{◌≡◌, ℕ, List, [], drop}
+use Rattle.vx_file.specs.Serving.{repeats}
+use Rattle.vx_main.proofs.Noting.{Noted}
+use Rattle.vx_main.proofs.repeats.has_repeats.Given as goal
+
+abbrev pub invariant-loop-step : goal.invariant-loop-step
+invariant-loop-step l = Noted l.seen (drop l.step-index l.script) l.script

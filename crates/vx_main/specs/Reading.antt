@@ -1,0 +1,32 @@
+-- What serving a script by a reader gives, as a text.
+use Rattle.std.specs.Prelude.{◌≡◌, ℕ, List, Result, Ok, Err, IsErr, Vec}
+use Rattle.std.specs.Global.{Global}
+use Rattle.vx_base.specs.Counts.{Rises}
+use Rattle.vx_footer.specs.Opening.{vx_grammar}
+use Rattle.vx_file.specs.declared.step.Step.{Step}
+use Rattle.vx_file.specs.declared.served.Served.{Served}
+use Rattle.vx_file.specs.Asking.{Known}
+use Rattle.vx_file.specs.Serving.{ServedFrom}
+use Rattle.vx_main.specs.declared.failure.Failure.{Failure}
+use Rattle.vx_main.specs.declared.failure.Failure.TheVariants as failures
+use Rattle.vx_main.specs.Render.{render_text}
+
+-- a script was served, and this is the text of it
+pub record ServesText (file : List ℕ) (script : List Step) (before now : Known) (text : List ℕ) : Type 0 where
+  pub served : Served
+  pub serves : ServedFrom file script before now served
+  pub rendered : text ≡ render_text served
+
+abbrev pub ReaderCause : List ℕ → List Step → Known → Known → Result (Vec ℕ Global) Failure → Type 0
+ReaderCause file script before now (Ok text) = ServesText file script before now text.items
+ReaderCause file script before now (Err (failures.Read fault)) = Unit {0}
+ReaderCause file script before now (Err failures.Refused) = IsErr (vx_grammar file)
+ReaderCause file script before now (Err failures.OutOfMemory) = Unit {0}
+ReaderCause file script before now (Err _) = ⊥
+
+abbrev pub ReaderFault : Known → Known → Result (Vec ℕ Global) Failure → Type 0
+ReaderFault before now (Ok text) = Unit {0}
+ReaderFault before now (Err (failures.Read fault)) = Rises 1 before.faults now.faults
+ReaderFault before now (Err failures.Refused) = Unit {0}
+ReaderFault before now (Err failures.OutOfMemory) = Unit {0}
+ReaderFault before now (Err _) = ⊥

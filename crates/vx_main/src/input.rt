@@ -1,0 +1,79 @@
+//! Reads an input to its end.
+ghost use Rattle.std.specs.Prelude.{◌≡◌, ◌+◌, ◌≤◌, ◌<◌, ℕ, List, [], ◌++◌, length, vec_len, take, drop, Some, IfOk, OnErr};
+ghost use Rattle.vx_base.specs.Counts.{Rises};
+ghost use Rattle.vx_main.specs.Streams.{InputCause, most_input};
+ghost use Rattle.vx_main.specs.declared.input.InputError.TheVariants as errors;
+
+use std::alloc::{AllocError, Global};
+use vx_base::Source;
+
+/// The most bytes that an input may have.
+pub const MOST_INPUT: usize = 67_108_864;
+
+const PIECE: usize = 65_536;
+
+/// Why an input was not read.
+#[derive(Clone, Copy, Debug, PartialEq, Eq)]
+pub enum InputError {
+    /// The source failed.
+    Failed,
+    /// The input has more bytes than it may.
+    TooLong,
+    OutOfMemory,
+}
+
+impl From<AllocError> for InputError {
+    ghost use Rattle.std.specs.Prelude.{◌≡◌};
+    ghost use Rattle.vx_main.specs.declared.input.InputError.TheVariants.{OutOfMemory};
+
+    ghost from_gives = { λ _ e. e ≡ OutOfMemory };
+
+    fn from(_error: AllocError) -> InputError {
+        InputError::OutOfMemory
+    }
+}
+
+/// Takes some bytes, at most as many as the piece has, and says how many: none at the end.
+fn take_some<I: Source>(
+    input: &mut I,
+    piece: &mut [u8],
+    text: &mut Vec<u8>,
+) -> Result<usize, InputError>
+    ensures told { IfOk result (λ n. (r : List ℕ) → I.rest input.old ≡ Some r → (n ≤ length r) × (I.rest input.new ≡ Some (drop n r)) × (text.new.items ≡ text.old.items ++ take n r)) }
+    ensures end { IfOk result (λ n. (r : List ℕ) → n ≡ 0 → 0 < length piece.old → I.rest input.old ≡ Some r → r ≡ []) }
+    ensures bound { IfOk result (λ n. (n ≤ length piece.old) × (vec_len text.new ≡ vec_len text.old + n)) }
+    ensures failed { result ≡ Err errors.Failed → Rises 1 (I.faults input.old) (I.faults input.new) }
+    ensures short { result ≡ Err errors.TooLong → ⊥ }
+    ensures never_falls { I.faults input.old ≤ I.faults input.new }
+{
+    let Ok(n) = input.read(piece) else {
+        return Err(InputError::Failed);
+    };
+    text.extend_from_slice(&piece[..n])?;
+    Ok(n)
+}
+
+/// Room for one turn.
+fn make_piece(alloc: Global) -> Result<Vec<u8>, AllocError>
+    ensures { IfOk result (λ piece. 0 < vec_len piece) }
+{
+    vec![in alloc; 0u8; PIECE]
+}
+
+/// Reads an input to its end, in turns that each take at least one byte, and at most one byte more
+/// than an input may have.
+pub(crate) fn read_input<I: Source>(alloc: Global, input: &mut I) -> Result<Vec<u8>, InputError>
+    ensures cause { InputCause (λ text. text.items) (record { rest = I.rest input.old; faults = I.faults input.old }) (record { rest = I.rest input.new; faults = I.faults input.new }) result }
+    ensures never_falls { I.faults input.old ≤ I.faults input.new }
+{
+    let mut text = Vec::new(alloc);
+    let mut buffer = make_piece(alloc)?;
+    while text.len() <= MOST_INPUT {
+        let room = (MOST_INPUT + 1 - text.len()).min(buffer.len());
+        let n = take_some(input, &mut buffer[..room], &mut text)?;
+        if n == 0 {
+            return Ok(text);
+        }
+    }
+    Err(InputError::TooLong)
+}
