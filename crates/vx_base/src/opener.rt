@@ -64,6 +64,7 @@ pub trait Opener: Sized + Drop {
         ensures kept { OnErr result (returned self.new ≡ returned self.old) }
         ensures counted { read_faults self.new
             ≡ min (read_faults self.old + Self.Reader.faults reader) last_count }
+        ensures never_falls { read_faults self.old ≤ read_faults self.new }
         ensures same_files { file self.new ≡ file self.old }
         ensures same_soundness { readers_never_fail self.new ≡ readers_never_fail self.old }
         ensures same_asked { asked self.new ≡ asked self.old }

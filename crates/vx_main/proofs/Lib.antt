@@ -1,4 +1,5 @@
 pub mod Lines
 pub mod Lists
 pub mod Noting
+pub mod Runs
 pub mod Streaming

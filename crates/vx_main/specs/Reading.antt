@@ -1,12 +1,15 @@
 -- What serving a script by a reader gives, as a text.
-use Rattle.std.specs.Prelude.{◌≡◌, ℕ, List, Result, Ok, Err, IsErr, Vec}
+use Rattle.std.specs.Prelude.{◌≡◌, ℕ, true, false, List, [], Result, Ok, Err, IsErr, Vec}
 use Rattle.std.specs.Global.{Global}
 use Rattle.vx_base.specs.Counts.{Rises}
 use Rattle.vx_footer.specs.Opening.{vx_grammar}
 use Rattle.vx_file.specs.declared.step.Step.{Step}
 use Rattle.vx_file.specs.declared.served.Served.{Served}
 use Rattle.vx_file.specs.Asking.{Known}
-use Rattle.vx_file.specs.Serving.{ServedFrom}
+use Rattle.vx_file.specs.Serving.{ServedFrom, repeats}
+use Rattle.vx_main.specs.declared.script.ScriptError.{ScriptError}
+use Rattle.vx_main.specs.declared.script.ScriptError.TheVariants.{Line, OutOfMemory}
+use Rattle.vx_main.specs.Script.{script_of}
 use Rattle.vx_main.specs.declared.failure.Failure.{Failure}
 use Rattle.vx_main.specs.declared.failure.Failure.TheVariants as failures
 use Rattle.vx_main.specs.Render.{render_text}
@@ -30,3 +33,17 @@ ReaderFault before now (Err (failures.Read fault)) = Rises 1 before.faults now.f
 ReaderFault before now (Err failures.Refused) = Unit {0}
 ReaderFault before now (Err failures.OutOfMemory) = Unit {0}
 ReaderFault before now (Err _) = ⊥
+
+-- ---- scripts
+
+abbrev pub script_failure : ScriptError → Failure
+script_failure (Line line) = failures.Line line
+script_failure OutOfMemory = failures.OutOfMemory
+
+-- what reading a script from a text gave has its cause
+abbrev pub StepsCause : List ℕ → Result (Vec Step Global) Failure → Type 0
+StepsCause text (Ok steps) = (script_of text ≡ Ok steps.items) × (repeats [] steps.items ≡ false)
+StepsCause text (Err (failures.Line line)) = script_of text ≡ Err line
+StepsCause text (Err failures.Script) = (steps : List Step) × (script_of text ≡ Ok steps) × (repeats [] steps ≡ true)
+StepsCause text (Err failures.OutOfMemory) = Unit {0}
+StepsCause text (Err _) = ⊥

@@ -4,7 +4,7 @@ ghost use Rattle.vx_base.specs.Counts.{Rises};
 ghost use Rattle.vx_file.specs.Serving.{repeats};
 ghost use Rattle.vx_main.specs.Command.{command_of, name_of};
 ghost use Rattle.vx_main.specs.Run.{ScriptCause, FileCause, CommandCause, Concludes, Fails, help_text, version_text, IsText};
-ghost use Rattle.vx_main.specs.Reading.{ReaderCause, ReaderFault};
+ghost use Rattle.vx_main.specs.Reading.{ReaderCause, ReaderFault, script_failure, StepsCause};
 ghost use Rattle.vx_main.specs.declared.command.Command.TheVariants.{Serve};
 
 use crate::command::{Command, command_from, name_from};
@@ -28,6 +28,30 @@ fn fixed_text(alloc: Global, text: &[u8]) -> Result<Vec<u8>, Failure>
     Ok(Vec::from_slice(alloc, text)?)
 }
 
+/// Why a text is no script.
+fn failure_of(error: ScriptError) -> Failure
+    ensures { result ≡ script_failure error }
+{
+    match error {
+        ScriptError::Line(line) => Failure::Line(line),
+        ScriptError::OutOfMemory => Failure::OutOfMemory,
+    }
+}
+
+/// The steps of a script, which registers no segment twice.
+fn steps_of(alloc: Global, text: &[u8]) -> Result<Vec<Step>, Failure>
+    ensures { StepsCause text.now result }
+{
+    let steps = match script::read(alloc, text) {
+        Ok(steps) => steps,
+        Err(error) => return Err(failure_of(error)),
+    };
+    if has_repeats(alloc, steps.as_slice())? {
+        return Err(Failure::Script);
+    }
+    Ok(steps)
+}
+
 /// The script that an input spells.
 fn load_script<I: Source>(alloc: Global, input: &mut I) -> Result<Vec<Step>, Failure>
     ensures cause { ScriptCause (record { rest = I.rest input.old; faults = I.faults input.old }) (record { rest = I.rest input.new; faults = I.faults input.new }) result }
@@ -39,15 +63,7 @@ fn load_script<I: Source>(alloc: Global, input: &mut I) -> Result<Vec<Step>, Fai
         Err(InputError::TooLong) => return Err(Failure::InputTooLong),
         Err(InputError::OutOfMemory) => return Err(Failure::OutOfMemory),
     };
-    let steps = match script::read(alloc, text.as_slice()) {
-        Ok(steps) => steps,
-        Err(ScriptError::Line(line)) => return Err(Failure::Line(line)),
-        Err(ScriptError::OutOfMemory) => return Err(Failure::OutOfMemory),
-    };
-    if has_repeats(alloc, steps.as_slice())? {
-        return Err(Failure::Script);
-    }
-    Ok(steps)
+    steps_of(alloc, text.as_slice())
 }
 
 /// The text of a script that is served by a reader.

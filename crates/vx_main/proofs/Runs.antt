@@ -1,0 +1,73 @@
+-- The cause of an answer, from the causes of its parts.
+use Rattle.std.proofs.Common.{◌≡◌, ℕ, ◌+◌, ◌≤◌, min, List, [], ◌∷◌, ◌++◌, length, true, false, Option, Some, None, Result, Ok, Err, refl, sym, ap, subst, ◌∙◌, arith}
+use Rattle.std.specs.Prelude.{Vec}
+use Rattle.std.specs.Global.{Global}
+use Rattle.std.specs.Option.{option_map}
+use Rattle.vx_base.specs.Counts.{Rises, last_count}
+use Rattle.vx_base.specs.Returning.{Returned}
+use Rattle.vx_file.specs.declared.step.Step.{Step}
+use Rattle.vx_base.specs.Asking.{Log}
+use Rattle.vx_file.specs.Asked.{Entry, Grew, entries}
+use Rattle.vx_file.specs.Asking.{Known}
+use Rattle.vx_file.specs.Serving.{asked, repeats}
+use Rattle.vx_main.specs.Script.{script_of}
+use Rattle.vx_file.specs.Turns.{bad_replies}
+use Rattle.vx_main.specs.declared.failure.Failure.{Failure}
+use Rattle.vx_main.specs.declared.failure.Failure.TheVariants as failures
+use Rattle.vx_main.specs.Reading.{ServesText, ReaderCause, ReaderFault, StepsCause}
+use Rattle.vx_main.specs.Run.{ScriptCause, FilesKnown, FileCause, ServesFile, AskedOnce}
+use Rattle.vx_main.specs.Streams.{SourceKnown, ReadToEnd}
+
+pub script-cause : (before now : SourceKnown) (text : List ℕ) (answer : Result (Vec Step Global) Failure) → ((t : List ℕ) → before.rest ≡ Some t → (text ≡ t) × ReadToEnd t now) → StepsCause text answer → ScriptCause before now answer
+script-cause before now text (Ok steps) read h = λ t told. let r = read t told in (r.1, subst (λ x. script_of x ≡ Ok steps.items) r.0 h.0)
+script-cause before now text (Err (failures.Line line)) read h = λ t told. let r = read t told in (r.1, subst (λ x. script_of x ≡ Err line) r.0 h)
+script-cause before now text (Err failures.Script) read h = λ t told. let r = read t told in (r.1, subst (λ x. (steps : List Step) × (script_of x ≡ Ok steps) × (repeats [] steps ≡ true)) r.0 h)
+script-cause before now text (Err failures.OutOfMemory) read h = tt
+script-cause before now text (Err failures.Usage) read h = absurd h
+script-cause before now text (Err failures.Refused) read h = absurd h
+script-cause before now text (Err (failures.Read fault)) read h = absurd h
+script-cause before now text (Err failures.Input) read h = absurd h
+script-cause before now text (Err failures.Output) read h = absurd h
+script-cause before now text (Err failures.Open) read h = absurd h
+script-cause before now text (Err failures.InputTooLong) read h = absurd h
+
+-- a reader was opened by a name and taken back
+pub record Lent (name : List ℕ) (before now : FilesKnown) (opened served : Known) : Type 0 where
+  pub told : (b : List ℕ) → before.file ≡ Some b → opened.bytes ≡ Some b
+  pub fresh : (all : List Returned) → before.returned ≡ Some all → opened.log ≡ Some []
+  pub faultless : opened.faults ≡ 0
+  pub asked : AskedOnce name before now
+  pub returned : now.returned ≡ option_map (λ all. all ++ record { name = name; log = served.log } ∷ []) before.returned
+  pub counted : now.read_faults ≡ min (before.read_faults + served.faults) last_count
+  pub never_falls : before.read_faults ≤ now.read_faults
+
+rises-through : (by before now opened served : ℕ) → opened ≡ 0 → now ≡ min (before + served) last_count → before ≤ now → Rises by opened served → Rises by before now
+rises-through by before now opened served none counted later h = record { later = later; risen = omega (arith, h.later, h.risen) }
+
+fresh-log : (gained : List Entry) (before now : Option Log) → before ≡ Some [] → Grew gained before now → entries now ≡ Some gained
+fresh-log gained before now fresh h = h ∙ ap (λ log. option_map (λ l. l ++ gained) (entries log)) fresh
+
+serves-file : (file name : List ℕ) (script : List Step) (before now : FilesKnown) (opened served : Known) (text : List ℕ) → Lent name before now opened served → ServesText file script opened served text
+    → ServesFile file name script before now text
+serves-file file name script before now opened served text lent h = record {
+  served = h.served;
+  footer = h.serves.footer; opening = h.serves.opening; fits = h.serves.fits;
+  log = served.log; returned = lent.returned;
+  asked = λ all told. fresh-log (asked h.served) opened.log served.log (lent.fresh all told) h.serves.asked;
+  bad = rises-through (bad_replies h.served.replies) before.read_faults now.read_faults opened.faults served.faults lent.faultless lent.counted lent.never_falls h.serves.bad;
+  rendered = h.rendered;
+}
+
+pub file-cause : (name : List ℕ) (script : List Step) (before now : FilesKnown) (opened served : Known) (answer : Result (Vec ℕ Global) Failure) → Lent name before now opened served
+    → ((file : List ℕ) → opened.bytes ≡ Some file → ReaderCause file script opened served answer) → ReaderFault opened served answer → FileCause name script before now answer
+file-cause name script before now opened served (Ok text) lent cause read = (lent.asked, λ file told. serves-file file name script before now opened served text.items lent (cause file (lent.told file told)))
+file-cause name script before now opened served (Err (failures.Read fault)) lent cause read = (lent.asked, rises-through 1 before.read_faults now.read_faults opened.faults served.faults lent.faultless lent.counted lent.never_falls read)
+file-cause name script before now opened served (Err failures.Refused) lent cause read = (lent.asked, λ file told. cause file (lent.told file told))
+file-cause name script before now opened served (Err failures.OutOfMemory) lent cause read = tt
+file-cause name script before now opened served (Err (failures.Line line)) lent cause read = absurd read
+file-cause name script before now opened served (Err failures.Script) lent cause read = absurd read
+file-cause name script before now opened served (Err failures.Usage) lent cause read = absurd read
+file-cause name script before now opened served (Err failures.Input) lent cause read = absurd read
+file-cause name script before now opened served (Err failures.Output) lent cause read = absurd read
+file-cause name script before now opened served (Err failures.Open) lent cause read = absurd read
+file-cause name script before now opened served (Err failures.InputTooLong) lent cause read = absurd read
