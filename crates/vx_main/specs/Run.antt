@@ -182,3 +182,12 @@ Concludes (Err failure) name out out_now err err_now status = (out_now.gained �
 Concludes (Ok text) name out out_now err err_now status =
     Prints text.items out out_now err err_now status
     ⊎ ((CutShort text.items out out_now × Fails failures.Output name err err_now status) ⊎ (Unfinished text.items out out_now × Fails failures.OutOfMemory name err err_now status))
+
+-- ---- a run
+
+-- a run of the program: there is an answer that has its cause, and the status, the output and the error
+-- stream are those of it
+pub record Runs (command : Option Command) (name : List ℕ) (source source_now : SourceKnown) (files files_now : FilesKnown) (out out_now err err_now : SinkKnown) (code : ℕ) : Type 0 where
+  pub answer : Result (Vec ℕ Global) Failure
+  pub cause : CommandCause command name source source_now files files_now answer
+  pub concludes : Concludes answer name out out_now err err_now code
