@@ -1,4 +1,4 @@
-//! The program `vx`.
+//! The program `vx`: serves the segments of a file by a script.
 #![tactic(auto)]
 
 mod command;
@@ -10,12 +10,38 @@ mod repeats;
 mod run;
 mod script;
 
+use std::env;
 use std::io;
+use std::process::ExitCode;
+use vx_base::{FileOpener, StdSink, StdSource};
 
-fn main(rt: HostRuntime) -> io::Result<()> {
-    let steps = script::read(rt.alloc(), b"r 0\np 0\n");
-    match steps {
-        Ok(steps) => println!(rt; "{}", steps.len()),
-        Err(_) => println!(rt; "bad"),
+/// The words after the program's name.
+fn words(rt: &HostRuntime) -> io::Result<Vec<String>> {
+    let mut words = Vec::new(rt.alloc());
+    for word in env::args(rt)?.skip(1) {
+        words.push(word)?;
     }
+    Ok(words)
+}
+
+/// Words that are no text are no command.
+fn main(rt: HostRuntime) -> ExitCode {
+    let alloc = rt.alloc();
+    let words = match words(&rt) {
+        Ok(words) => words,
+        Err(_) => Vec::new(alloc),
+    };
+    let mut input = StdSource::new(rt.stdin());
+    let mut out = StdSink::new(rt.stdout());
+    let mut err = StdSink::new(rt.stderr());
+    let mut files = FileOpener::new(rt);
+    let status = run::run(
+        alloc,
+        words.as_slice(),
+        &mut input,
+        &mut files,
+        &mut out,
+        &mut err,
+    );
+    ExitCode::from(status)
 }
