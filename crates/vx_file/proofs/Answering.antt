@@ -1,8 +1,6 @@
 -- The replies to a script, step by step.
-use Rattle.std.proofs.Common.{◌≡◌, ℕ, suc, ◌+◌, ◌<◌, ◌≤◌, List, [], ◌∷◌, ◌++◌, length, map, drop, get_or, refl, sym, ap, subst, ◌∙◌, arith, append_assoc, drop-cons, add-one}
-use Rattle.std.specs.List.{flat_map}
+use Rattle.std.proofs.Common.{◌≡◌, ℕ, ◌+◌, ◌<◌, ◌≤◌, List, [], ◌∷◌, ◌++◌, length, map, drop, get_or, refl, sym, ap, subst, ◌∙◌, arith, append_assoc, drop-cons, add-one}
 use Rattle.std.proofs.lemmas.List.{append-nil, drop_all}
-use Rattle.std.proofs.lemmas.Grind.{flat_map-append}
 use Rattle.std.specs.Prelude.{Option, Some, None, Result, Ok, Err, IfOk, OnOk, slice_get, nat_le}
 use Rattle.vx_base.specs.declared.segment.SegmentSpec.{SegmentSpec}
 use Rattle.vx_file.specs.declared.request.Request.{Request}
@@ -13,10 +11,10 @@ use Rattle.vx_file.specs.declared.step.Step.{Step}
 use Rattle.vx_file.specs.declared.step.Step.TheVariants.{Register, Poll, Drive}
 use Rattle.vx_file.specs.declared.reply.Reply.TheVariants.{Registered}
 use Rattle.vx_file.specs.declared.reply.Reply.{Reply}
-use Rattle.vx_file.specs.Asked.{Entry, span_entry, asked_by}
+use Rattle.vx_file.specs.Asked.{span_entry, asked_by}
 use Rattle.vx_file.specs.Asking.{Known}
 use Rattle.vx_file.specs.History.{Moment, moment, spans_in}
-use Rattle.vx_file.specs.Fits.{World, IsRow, Fits}
+use Rattle.vx_file.specs.Fits.{World, Fits}
 use Rattle.vx_file.specs.Kept.{Kept, fresh, with_request, poll_reply, Polls, PollsRequest}
 use Rattle.vx_file.specs.Stands.{Stands}
 use Rattle.vx_file.specs.Turns.{Asks, Replied, Answered, Answering, bad_replies, bad_spans}
@@ -42,7 +40,7 @@ answering-goes_on w script rest step start now next replies reply k k' h r = rec
   completes = λ others fits. subst (Fits w [] script) (sym (append_assoc replies (reply ∷ []) others)) (h.completes (reply ∷ others) (r.row, fits));
   asks = subst (λ n. Asks (asked_by (replies ++ reply ∷ [])) n start next) (sym (bad-append replies reply))
       (subst (λ g. Asks g (bad_replies replies + bad_spans (spans_in reply)) start next) (sym (asked-append replies reply))
-          (asks-add (asked_by replies) (map span_entry (spans_in reply)) (bad_replies replies) (bad_spans (spans_in reply)) start now next h.asks r.asks));
+      (asks-add (asked_by replies) (map span_entry (spans_in reply)) (bad_replies replies) (bad_spans (spans_in reply)) start now next h.asks r.asks));
 }
 
 pub answering-ends : (w : World) (script : List Step) (start now : Known) (replies : List Reply) (k : Kept) → Answering w script [] start now replies k → Answered w script start now replies
@@ -77,9 +75,9 @@ register-replied w past k k' segment s step reply known st found is told kept =
     let moves = register-moves w past k segment s st found in
     let new : Reply = Registered (length k.requests) (nat_le k.start s.offset) in
     subst (λ p. Replied w past p known known reply k') (sym is)
-      (subst (λ q. Replied w past (Register segment) known known q k') (sym told)
-        (subst (Replied w past (Register segment) known known new) (sym kept)
-          (record { row = moves.0; stands = moves.1; asks = asks-nothing known })))
+    (subst (λ q. Replied w past (Register segment) known known q k') (sym told)
+    (subst (Replied w past (Register segment) known known new) (sym kept)
+    (record { row = moves.0; stands = moves.1; asks = asks-nothing known })))
 
 no-spans : (s : RequestState) → spans_in (poll_reply s) ≡ []
 no-spans (state.Ready buffer) = refl
@@ -96,7 +94,7 @@ pub poll-replied : (w : World) (past : List Moment) (k k' : Kept) (n : ℕ) (ste
 poll-replied w past k k' n step reply known st is polls =
     let moves = poll-moves w past k n reply k' st polls in
     subst (λ p. Replied w past p known known reply k') (sym is)
-      (record { row = moves.0; stands = moves.1; asks = subst (λ (spans : List Span). Asks (map span_entry spans) (bad_spans spans) known known) (sym (poll-spans k n (slice_get k.requests n) reply k' polls)) (asks-nothing known) })
+    (record { row = moves.0; stands = moves.1; asks = subst (λ (spans : List Span). Asks (map span_entry spans) (bad_spans spans) known known) (sym (poll-spans k n (slice_get k.requests n) reply k' polls)) (asks-nothing known) })
 
 pub drive-replied : (w : World) (past : List Moment) (k' : Kept) (step : Step) (reply : Reply) (before now : Known) → step ≡ Drive → Replied w past Drive before now reply k' → Replied w past step before now reply k'
 drive-replied w past k' step reply before now is h = subst (λ p. Replied w past p before now reply k') (sym is) h

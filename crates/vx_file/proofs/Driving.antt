@@ -1,6 +1,6 @@
 -- Turns of a drive, and what a reader was asked in them.
-use Rattle.std.proofs.Common.{◌≡◌, ℕ, zero, suc, ◌+◌, ◌-◌, ◌<◌, ◌≤◌, min, Bool, true, false, cond, List, [], ◌∷◌, ◌++◌, length, map, Option, Some, None, Result, Ok, Err, refl, sym, ap, subst, ◌∙◌, arith, append_assoc}
-use Rattle.std.specs.Prelude.{slice_get, slice_set, IfOk, IfErr}
+use Rattle.std.proofs.Common.{◌≡◌, ℕ, zero, suc, ◌+◌, ◌-◌, ◌<◌, true, false, cond, List, [], ◌∷◌, ◌++◌, map, Option, Some, None, Result, Ok, Err, refl, sym, ap, subst, ◌∙◌, arith, append_assoc}
+use Rattle.std.specs.Prelude.{slice_get, slice_set}
 use Rattle.std.specs.Option.{option_map}
 use Rattle.std.proofs.lemmas.List.{append-nil, map-append}
 use Rattle.vx_base.specs.Buffer.{Buffer, bytes_at}
@@ -19,8 +19,8 @@ use Rattle.vx_file.specs.declared.span.SpanOutcome.{SpanOutcome}
 use Rattle.vx_file.specs.Asked.{Entry, Grew, entries, entry_of, span_entry, mark_of_read, mark_of_outcome}
 use Rattle.vx_file.specs.Asking.{Known, ReadsRange, faults_of}
 use Rattle.vx_file.specs.History.{Moment, moment}
-use Rattle.vx_file.specs.Fits.{World, Merges, Drives}
-use Rattle.vx_file.specs.Kept.{Kept, IsNext, is_due_at, is_due_request, is_polled_state, with_state, read_state, outcome_read}
+use Rattle.vx_file.specs.Fits.{World, Merges}
+use Rattle.vx_file.specs.Kept.{Kept, IsNext, is_due_at, is_polled_state, with_state, read_state, outcome_read}
 use Rattle.vx_file.specs.Stands.{Stands}
 use Rattle.vx_file.specs.Turns.{Asks, Idle, Turned, Replied, KeepsTail, is_bad, bad_spans, count_due}
 use Rattle.vx_file.proofs.Histories.{IsReadOf, drive-moves, after, Driving, driving-starts, driving-goes_on, driving-ends}
@@ -85,9 +85,9 @@ span-asks s end n range before now read e o l h =
     let asked : Asked = record { range = range; mark = mark_of_read read } in
     let size : range.length ≡ end - s.offset = omega arith in
     let entry : entry_of asked ≡ span_entry (span_at s end n (outcome_read read)) =
-        ap (λ m. let x : Entry = record { offset = range.offset; length = range.length; mark = m } in x) (mark-is read)
-        ∙ ap (λ m. let x : Entry = record { offset = m; length = range.length; mark = mark_of_outcome (outcome_read read) } in x) o
-        ∙ ap (λ m. let x : Entry = record { offset = s.offset; length = m; mark = mark_of_outcome (outcome_read read) } in x) size in
+    ap (λ m. let x : Entry = record { offset = range.offset; length = range.length; mark = m } in x) (mark-is read)
+    ∙ ap (λ m. let x : Entry = record { offset = m; length = range.length; mark = mark_of_outcome (outcome_read read) } in x) o
+    ∙ ap (λ m. let x : Entry = record { offset = s.offset; length = m; mark = mark_of_outcome (outcome_read read) } in x) size in
     record {
       grew = subst (λ x. Grew (x ∷ []) before.log now.log) entry (grew-one asked before.log now.log h.log);
       rises = subst (λ b. Rises b before.faults now.faults) (bad-is read) h.rises;
@@ -156,7 +156,7 @@ so_far-goes_on w past start now next spans span k k' h t = record {
   driving = driving-goes_on w past spans span k k' h.driving t.merges t.stands;
   asks = subst (λ n. Asks (map span_entry (spans ++ span ∷ [])) n start next) (sym (bad-append spans span))
       (subst (λ g. Asks g (bad_spans spans + is_bad span.outcome) start next) (sym (map-append span_entry spans (span ∷ [])))
-          (asks-add (map span_entry spans) (span_entry span ∷ []) (bad_spans spans) (is_bad span.outcome) start now next h.asks t.asks));
+      (asks-add (map span_entry spans) (span_entry span ∷ []) (bad_spans spans) (is_bad span.outcome) start now next h.asks t.asks));
 }
 
 pub so_far-ends : (w : World) (past : List Moment) (start now : Known) (spans : List Span) (k : Kept) → SoFar w past start now spans k → ((n : ℕ) → is_due_at k.requests n ≡ false)

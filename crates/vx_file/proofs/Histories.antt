@@ -1,10 +1,10 @@
 -- What stands for a history before a call stands for the longer one after it.
-use Rattle.std.proofs.Common.{◌≡◌, ◌≢◌, ℕ, zero, suc, ◌+◌, ◌-◌, ◌<◌, ◌≤◌, Bool, true, false, cond, List, [], ◌∷◌, ◌++◌, length, drop, take, Option, Some, None, Result, Ok, Err, refl, sym, ap, subst, ◌∙◌, arith, ◌⊎◌, inl, inr, length-append, append_assoc}
+use Rattle.std.proofs.Common.{◌≡◌, ◌≢◌, ℕ, zero, suc, ◌+◌, ◌-◌, ◌<◌, ◌≤◌, Bool, true, false, cond, List, [], ◌∷◌, ◌++◌, length, drop, take, Option, Some, None, Result, Ok, Err, refl, sym, ap, subst, ◌∙◌, arith, inl, inr, length-append, append_assoc}
 use Rattle.std.specs.Prelude.{slice_get, slice_set, ◌||◌, ◌&&◌, ◌==◌, nat_le, not, is_none}
 use Rattle.std.proofs.Math.ListN.{length-set}
 use Rattle.std.specs.Option.{option_map, option_and_then}
 use Rattle.std.proofs.lemmas.Bool.Decides.{nat_tests}
-use Rattle.std.proofs.lemmas.Option.{slice_get_within, slice_get_past}
+use Rattle.std.proofs.lemmas.Option.{slice_get_within}
 use Rattle.std.proofs.lemmas.List.{drop-drop, append-nil}
 use Rattle.vx_base.specs.Buffer.{Buffer, bytes_at}
 use Rattle.vx_base.specs.declared.segment.SegmentSpec.{SegmentSpec}
@@ -20,9 +20,9 @@ use Rattle.vx_file.specs.declared.fault.Place.TheVariants.{Range}
 use Rattle.vx_file.specs.declared.span.Span.{Span}
 use Rattle.vx_file.specs.declared.span.SpanOutcome.{SpanOutcome}
 use Rattle.vx_file.specs.declared.span.SpanOutcome.TheVariants.{Good, Bad}
-use Rattle.vx_file.specs.History.{Moment, moment, makes, made, ends, polls, outcome_in, outcome_of, spans_in, first_of, waits, is_live, is_polled, is_held, segment_of}
+use Rattle.vx_file.specs.History.{Moment, moment, makes, made, ends, polls, outcome_in, outcome_of, spans_in, first_of, is_live, is_polled, is_held, segment_of}
 use Rattle.vx_file.specs.Fits.{World, spec_of, slice_of, covers, is_due, Merges, Drives, IsRow, is_good, NamesRange}
-use Rattle.vx_file.specs.Kept.{Kept, cut, first_state, fresh, with_request, with_state, poll_reply, polled_state, PollsRequest, Polls, is_due_at, is_due_request, is_polled_state, IsNext, read_state, outcome_read}
+use Rattle.vx_file.specs.Kept.{Kept, cut, fresh, with_request, with_state, poll_reply, polled_state, PollsRequest, Polls, is_due_at, is_due_request, is_polled_state, IsNext, read_state, outcome_read}
 use Rattle.vx_file.specs.Stands.{Words, words, MatchesState, Matches, Unmade, Stands}
 use Rattle.vx_file.proofs.Requests.{get-push_last, get-push_other, get-set_same, get-set_other, same_or_not}
 
@@ -46,7 +46,9 @@ made-same past n e = omega arith
 
 pub stands-words : (w : World) (past past' : List Moment) (k : Kept) → ((n : ℕ) → words w past' n ≡ words w past n) → made past' ≡ made past → Stands w past k → Stands w past' k
 stands-words w past past' k same made_same st = record {
-  start = st.start; tail = st.tail; count = st.count ∙ sym made_same;
+  start = st.start;
+  tail = st.tail;
+  count = st.count ∙ sym made_same;
   each = λ n r got. subst (λ d. Matches w d r) (sym (same n)) (st.each n r got);
   beyond = λ n past_end. subst Unmade (sym (same n)) (st.beyond n past_end);
 }
@@ -54,20 +56,21 @@ stands-words w past past' k same made_same st = record {
 pub stands-set : (w : World) (past past' : List Moment) (k : Kept) (n : ℕ) (r : Request) (s : RequestState) → Stands w past k → slice_get k.requests n ≡ Some r → made past' ≡ made past
     → ((m : ℕ) → m ≢ n → words w past' m ≡ words w past m) → Matches w (words w past' n) (record r { state = s }) → Stands w past' (with_state k n r s)
 stands-set w past past' k n r s st got made_same others here = record {
-  start = st.start; tail = st.tail;
+  start = st.start;
+  tail = st.tail;
   count = length-set k.requests n (record r { state = s }) ∙ st.count ∙ sym made_same;
   each = λ m q found. elim (same_or_not m n) [
-      inl same ↦
+    | inl same ↦
         let set : slice_get (slice_set k.requests n (record r { state = s })) m ≡ Some (record r { state = s }) = ap (slice_get (slice_set k.requests n (record r { state = s }))) same ∙ get-set_same k.requests n (record r { state = s }) (slice_get_within k.requests n r got) in
         let one : Some (record r { state = s }) ≡ Some q = sym set ∙ found in
         let is : record r { state = s } ≡ q = cc in
         subst (λ j. Matches w (words w past' j) q) (sym same) (subst (Matches w (words w past' n)) is here)
     | inr other ↦ subst (λ d. Matches w d q) (sym (others m other)) (st.each m q (sym (get-set_other k.requests n m (record r { state = s }) other) ∙ found))
-    ];
+  ];
   beyond = λ m past_end.
-    let lt : n < length k.requests = slice_get_within k.requests n r got in
-    let size : length (slice_set k.requests n (record r { state = s })) ≡ length k.requests = length-set k.requests n (record r { state = s }) in
-    subst Unmade (sym (others m (λ e. omega arith))) (st.beyond m (omega arith));
+      let lt : n < length k.requests = slice_get_within k.requests n r got in
+      let size : length (slice_set k.requests n (record r { state = s })) ≡ length k.requests = length-set k.requests n (record r { state = s }) in
+      subst Unmade (sym (others m (λ e. omega arith))) (st.beyond m (omega arith));
 }
 
 -- ---- registers
@@ -101,7 +104,7 @@ register-new w past k segment s st found =
       spec = ap (λ t. option_and_then (λ n. slice_get w.table n) (cond t (Some segment) (segment_of past (length k.requests)))) here ∙ found;
       end = refl;
       state = first-matches w past k s (nat_le k.start s.offset) (words w (moment (Register segment) (registered segment k s) ∷ past) (length k.requests)) st.start st.tail refl
-        (ap (λ t. cond t true (is_live past (length k.requests))) here) (ap (λ t. cond t (nat_le k.start s.offset) (is_held past (length k.requests))) here) none.polled none.outcome;
+          (ap (λ t. cond t true (is_live past (length k.requests))) here) (ap (λ t. cond t (nat_le k.start s.offset) (is_held past (length k.requests))) here) none.polled none.outcome;
     }
 
 covers-is : (w : World) (segment : ℕ) (s : SegmentSpec) → slice_get w.table segment ≡ Some s → covers w segment ≡ nat_le w.start s.offset
@@ -110,23 +113,25 @@ covers-is w segment s found = rw found refl
 pub register-moves : (w : World) (past : List Moment) (k : Kept) (segment : ℕ) (s : SegmentSpec) → Stands w past k → slice_get w.table segment ≡ Some s
     → IsRow w past (Register segment) (registered segment k s) × Stands w (moment (Register segment) (registered segment k s) ∷ past) (with_request k (fresh k s))
 register-moves w past k segment s st found =
-    let others : (m : ℕ) → m ≢ length k.requests → words w (moment (Register segment) (registered segment k s) ∷ past) m ≡ words w past m = λ m ne. words-same w past (Register segment) (registered segment k s) m (eq-other m (length k.requests) ne) refl refl refl in
-    ((slice_get_within w.table segment s found, st.count, sym (covers-is w segment s found ∙ ap (λ n. nat_le n s.offset) (sym st.start))),
-     record {
-       start = st.start; tail = st.tail;
-       count = length-append k.requests (fresh k s ∷ []) ∙ ap (λ n. n + 1) st.count;
-       each = λ m q got. elim (same_or_not m (length k.requests)) [
-           inl same ↦
-             let last : slice_get (k.requests ++ fresh k s ∷ []) m ≡ Some (fresh k s) = ap (slice_get (k.requests ++ fresh k s ∷ [])) same ∙ get-push_last k.requests (fresh k s) in
-             let one : Some (fresh k s) ≡ Some q = sym last ∙ got in
-             let is : fresh k s ≡ q = cc in
-             subst (λ j. Matches w (words w (moment (Register segment) (registered segment k s) ∷ past) j) q) (sym same) (subst (Matches w (words w (moment (Register segment) (registered segment k s) ∷ past) (length k.requests))) is (register-new w past k segment s st found))
-         | inr other ↦ subst (λ d. Matches w d q) (sym (others m other)) (st.each m q (sym (get-push_other k.requests (fresh k s) m other) ∙ got))
-         ];
-       beyond = λ m past_end.
-         let size : length (k.requests ++ fresh k s ∷ []) ≡ length k.requests + 1 = length-append k.requests (fresh k s ∷ []) in
-         subst Unmade (sym (others m (λ e. omega arith))) (st.beyond m (omega arith));
-     })
+    let others : (m : ℕ) → m ≢ length k.requests → words w (moment (Register segment) (registered segment k s) ∷ past) m ≡ words w past m = λ m ne. words-same w past (Register segment) (registered segment k s) m (eq-other m (length k.requests) ne) refl refl refl in (
+      (slice_get_within w.table segment s found, st.count, sym (covers-is w segment s found ∙ ap (λ n. nat_le n s.offset) (sym st.start))),
+      record {
+        start = st.start;
+        tail = st.tail;
+        count = length-append k.requests (fresh k s ∷ []) ∙ ap (λ n. n + 1) st.count;
+        each = λ m q got. elim (same_or_not m (length k.requests)) [
+          | inl same ↦
+              let last : slice_get (k.requests ++ fresh k s ∷ []) m ≡ Some (fresh k s) = ap (slice_get (k.requests ++ fresh k s ∷ [])) same ∙ get-push_last k.requests (fresh k s) in
+              let one : Some (fresh k s) ≡ Some q = sym last ∙ got in
+              let is : fresh k s ≡ q = cc in
+              subst (λ j. Matches w (words w (moment (Register segment) (registered segment k s) ∷ past) j) q) (sym same) (subst (Matches w (words w (moment (Register segment) (registered segment k s) ∷ past) (length k.requests))) is (register-new w past k segment s st found))
+          | inr other ↦ subst (λ d. Matches w d q) (sym (others m other)) (st.each m q (sym (get-push_other k.requests (fresh k s) m other) ∙ got))
+        ];
+        beyond = λ m past_end.
+            let size : length (k.requests ++ fresh k s ∷ []) ≡ length k.requests + 1 = length-append k.requests (fresh k s ∷ []) in
+            subst Unmade (sym (others m (λ e. omega arith))) (st.beyond m (omega arith));
+      },
+    )
 
 -- ---- polls
 
@@ -144,26 +149,31 @@ poll-others w past n reply m no_make no_span ne =
 
 state-moves : (w : World) (past : List Moment) (k : Kept) (n : ℕ) (r : Request) (s : RequestState) → Stands w past k → slice_get k.requests n ≡ Some r
     → (words w past n).spec ≡ Some r.spec → r.end ≡ r.spec.offset + r.spec.length → MatchesState w (words w past n) r.spec s → Moved w past n (poll_reply s) (with_state k n r (polled_state s))
-state-moves w past k n r (state.Ready buffer) st got spec end h =
-    ((h.0, h.1, ap (option_map (slice_of w.file)) spec ∙ ap (λ b. Some b) h.2),
-     stands-set w past (moment (Poll n) (Ready buffer) ∷ past) k n r state.Ended st got (sym (made-same past 0 refl)) (λ m ne. poll-others w past n (Ready buffer) m (λ j. refl) refl ne)
-        (record { spec = spec; end = end; state = ap (λ t. cond t false (is_live past n)) (eq-same n) }))
-state-moves w past k n r state.Waiting st got spec end h =
-    ((h.0, waits-true _ _ _ h.0 h.1 h.3),
-     stands-set w past (moment (Poll n) Pending ∷ past) k n r state.Polled st got (sym (made-same past 0 refl)) (λ m ne. poll-others w past n Pending m (λ j. refl) refl ne)
-        (record { spec = spec; end = end; state = (h.0, h.1, ap (λ t. cond t true (is_polled past n)) (eq-same n), h.3) }))
-state-moves w past k n r state.Polled st got spec end h =
-    ((h.0, waits-true _ _ _ h.0 h.1 h.3),
-     stands-set w past (moment (Poll n) Pending ∷ past) k n r state.Polled st got (sym (made-same past 0 refl)) (λ m ne. poll-others w past n Pending m (λ j. refl) refl ne)
-        (record { spec = spec; end = end; state = (h.0, h.1, ap (λ t. cond t true (is_polled past n)) (eq-same n), h.3) }))
-state-moves w past k n r (state.Bad fault) st got spec end h =
-    ((h.0, h.1),
-     stands-set w past (moment (Poll n) (Failed fault) ∷ past) k n r state.Ended st got (sym (made-same past 0 refl)) (λ m ne. poll-others w past n (Failed fault) m (λ j. refl) refl ne)
-        (record { spec = spec; end = end; state = ap (λ t. cond t false (is_live past n)) (eq-same n) }))
-state-moves w past k n r state.Ended st got spec end h =
-    (h,
-     stands-set w past (moment (Poll n) NotLive ∷ past) k n r state.Ended st got (sym (made-same past 0 refl)) (λ m ne. poll-others w past n NotLive m (λ j. refl) refl ne)
-        (record { spec = spec; end = end; state = h }))
+state-moves w past k n r (state.Ready buffer) st got spec end h = (
+  (h.0, h.1, ap (option_map (slice_of w.file)) spec ∙ ap (λ b. Some b) h.2),
+  stands-set w past (moment (Poll n) (Ready buffer) ∷ past) k n r state.Ended st got (sym (made-same past 0 refl)) (λ m ne. poll-others w past n (Ready buffer) m (λ j. refl) refl ne)
+      (record { spec = spec; end = end; state = ap (λ t. cond t false (is_live past n)) (eq-same n) }),
+)
+state-moves w past k n r state.Waiting st got spec end h = (
+  (h.0, waits-true _ _ _ h.0 h.1 h.3),
+  stands-set w past (moment (Poll n) Pending ∷ past) k n r state.Polled st got (sym (made-same past 0 refl)) (λ m ne. poll-others w past n Pending m (λ j. refl) refl ne)
+      (record { spec = spec; end = end; state = (h.0, h.1, ap (λ t. cond t true (is_polled past n)) (eq-same n), h.3) }),
+)
+state-moves w past k n r state.Polled st got spec end h = (
+  (h.0, waits-true _ _ _ h.0 h.1 h.3),
+  stands-set w past (moment (Poll n) Pending ∷ past) k n r state.Polled st got (sym (made-same past 0 refl)) (λ m ne. poll-others w past n Pending m (λ j. refl) refl ne)
+      (record { spec = spec; end = end; state = (h.0, h.1, ap (λ t. cond t true (is_polled past n)) (eq-same n), h.3) }),
+)
+state-moves w past k n r (state.Bad fault) st got spec end h = (
+  (h.0, h.1),
+  stands-set w past (moment (Poll n) (Failed fault) ∷ past) k n r state.Ended st got (sym (made-same past 0 refl)) (λ m ne. poll-others w past n (Failed fault) m (λ j. refl) refl ne)
+      (record { spec = spec; end = end; state = ap (λ t. cond t false (is_live past n)) (eq-same n) }),
+)
+state-moves w past k n r state.Ended st got spec end h = (
+  h,
+  stands-set w past (moment (Poll n) NotLive ∷ past) k n r state.Ended st got (sym (made-same past 0 refl)) (λ m ne. poll-others w past n NotLive m (λ j. refl) refl ne)
+      (record { spec = spec; end = end; state = h }),
+)
 
 none-past : (rs : List Request) (n : ℕ) → slice_get rs n ≡ None → length rs ≤ n
 none-past [] n h = omega arith
@@ -173,9 +183,10 @@ none-past (r ∷ rs) (suc n) h = omega (arith, none-past rs n h)
 poll-at : (w : World) (past : List Moment) (k : Kept) (n : ℕ) (o : Option Request) (reply : Reply) (k' : Kept) → Stands w past k → slice_get k.requests n ≡ o
     → PollsRequest k n o reply k' → Moved w past n reply k'
 poll-at w past k n None reply k' st got h =
-    let moved : Moved w past n NotLive k =
-        ((st.beyond n (none-past k.requests n got)).live,
-         stands-words w past (moment (Poll n) NotLive ∷ past) k (λ m. refl) (sym (made-same past 0 refl)) st) in
+    let moved : Moved w past n NotLive k = (
+      (st.beyond n (none-past k.requests n got)).live,
+      stands-words w past (moment (Poll n) NotLive ∷ past) k (λ m. refl) (sym (made-same past 0 refl)) st,
+    ) in
     subst (λ q. Moved w past n q k') (sym h.0) (subst (Moved w past n NotLive) (sym h.1) moved)
 poll-at w past k n (Some r) reply k' st got h =
     let there = st.each n r got in
@@ -258,17 +269,22 @@ pub drive-moves : (w : World) (past : List Moment) (k : Kept) (n : ℕ) (r : Req
     → Merges w past (span_of n r (outcome_read read)) × Stands w (driven n r (outcome_read read) past) (with_state k n r (read_state r.spec read))
 drive-moves w past k n r read st next got h =
     let there = st.each n r got in
-    let is_due_state : is_polled_state r.state ≡ true = sym (ap is_due_request got) ∙ next.due in
-    (record {
-       read = n; spec = r.spec; lists = refl;
-       due = due-is w past k n st ∙ next.due;
-       least = λ m lt. due-is w past k m st ∙ next.least m lt;
-       found = there.spec; start = refl; end = there.end;
-       place = names-range w.file r.spec read h;
-     },
-     stands-set w past (driven n r (outcome_read read) past) k n r (read_state r.spec read) st got (sym (made-same past 0 refl))
-        (λ m ne. words-same w past Drive (Driven (span_of n r (outcome_read read) ∷ [])) m refl refl refl (ap (λ t. cond (cond t true false) (Some (outcome_read read)) None) (eq-other m n ne)))
-        (record { spec = there.spec; end = there.end; state = read-matches w past n r read h (polled-live w (words w past n) r.spec r.state is_due_state there.state) }))
+    let is_due_state : is_polled_state r.state ≡ true = sym (ap is_due_request got) ∙ next.due in (
+      record {
+        read = n;
+        spec = r.spec;
+        lists = refl;
+        due = due-is w past k n st ∙ next.due;
+        least = λ m lt. due-is w past k m st ∙ next.least m lt;
+        found = there.spec;
+        start = refl;
+        end = there.end;
+        place = names-range w.file r.spec read h;
+      },
+      stands-set w past (driven n r (outcome_read read) past) k n r (read_state r.spec read) st got (sym (made-same past 0 refl))
+          (λ m ne. words-same w past Drive (Driven (span_of n r (outcome_read read) ∷ [])) m refl refl refl (ap (λ t. cond (cond t true false) (Some (outcome_read read)) None) (eq-other m n ne)))
+          (record { spec = there.spec; end = there.end; state = read-matches w past n r read h (polled-live w (words w past n) r.spec r.state is_due_state there.state) }),
+    )
 
 -- ---- the spans of one drive are as good as one drive for each
 
@@ -284,7 +300,7 @@ words-after : (w : World) (spans : List Span) (past : List Moment) (n : ℕ) →
 words-after w [] past n = refl
 words-after w (span ∷ spans) past n =
     ap (λ o. let d : Words = record { spec = spec_of w past n; is_live = is_live past n; is_held = is_held past n; is_polled = is_polled past n; outcome = o } in d)
-        (first_of-assoc (outcome_in spans n) (outcome_in (span ∷ []) n) (outcome_of past n))
+    (first_of-assoc (outcome_in spans n) (outcome_in (span ∷ []) n) (outcome_of past n))
     ∙ words-after w spans (moment Drive (Driven (span ∷ [])) ∷ past) n
 
 made-after : (spans : List Span) (past : List Moment) → made (after spans past) ≡ made past

@@ -1,13 +1,12 @@
 -- What the answers to one range say of it.
 use Rattle.std.proofs.Common.{◌≡◌, ℕ, ◌+◌, ◌≤◌, Bool, true, false, cond, List, [], ◌∷◌, ◌++◌, length, find, Option, Some, None, Result, Ok, Err, refl, sym, ap, subst, ◌∙◌, arith}
-use Rattle.std.specs.Prelude.{All, IfOk, IfErr, IsOk, is_some, ◌&&◌, ◌==◌}
+use Rattle.std.specs.Prelude.{All, IfOk, IsOk, ◌&&◌, ◌==◌}
 use Rattle.std.specs.List.{AllByRecursion}
 use Rattle.std.specs.Option.{option_map}
 use Rattle.std.proofs.lemmas.List.Elements.{recursion_from_All}
 use Rattle.std.proofs.lemmas.Bool.Decides.{nat_tests}
-use Rattle.std.proofs.lemmas.Grind.{common_steps}
 use Rattle.vx_base.specs.Buffer.{Buffer, bytes_at}
-use Rattle.vx_base.specs.Asking.{Log, names, same_range, answer_to, mark_of_answer, logged, faulted, IsTrueTo, IsInside}
+use Rattle.vx_base.specs.Asking.{names, same_range, answer_to, mark_of_answer, logged, faulted, IsTrueTo}
 use Rattle.vx_base.specs.Counts.{Rises}
 use Rattle.vx_base.specs.declared.answer.ReadAtRequest.{ReadAtRequest}
 use Rattle.vx_base.specs.declared.answer.RangeAnswer.{RangeAnswer}

@@ -1,5 +1,5 @@
 -- A list of requests after one is added or changed.
-use Rattle.std.proofs.Common.{◌≡◌, ◌≢◌, ℕ, zero, suc, ◌+◌, ◌<◌, Bool, true, false, List, [], ◌∷◌, ◌++◌, length, Option, Some, None, Result, Ok, Err, refl, sym, ap, subst, ◌≤◌, ◌∙◌, arith, ◌⊎◌, inl, inr}
+use Rattle.std.proofs.Common.{◌≡◌, ◌≢◌, ℕ, zero, suc, ◌<◌, true, false, List, [], ◌∷◌, ◌++◌, length, Some, Result, Ok, Err, refl, sym, ap, subst, ◌≤◌, ◌∙◌, arith, ◌⊎◌, inl, inr}
 use Rattle.std.proofs.lemmas.Bool.{cases_lt}
 use Rattle.std.proofs.lemmas.Option.{slice_get_past}
 use Rattle.std.specs.Prelude.{slice_get, slice_set}
@@ -38,24 +38,24 @@ get-set_other (y ∷ ys) (suc n) (suc m) x ne = get-set_other ys n m x (λ e. ne
 
 pub same_or_not : (m n : ℕ) → (m ≡ n) ⊎ (m ≢ n)
 same_or_not m n = elim (cases_lt m n) [
-    inl less ↦ inr (λ e. omega arith)
+  | inl less ↦ inr (λ e. omega arith)
   | inr more ↦ elim (cases_lt n m) [ inl greater ↦ inr (λ e. omega arith) | inr same ↦ inl (omega arith) ]
-  ]
+]
 
 -- ---- the tie between the requests and the queue
 
 pub tied-push : (rs : List Request) (queue : List ℕ) (r : Request) → is_polled_state r.state ≡ false → IsTied rs queue → IsTied (rs ++ r ∷ []) queue
 tied-push rs queue r quiet tied n = elim (same_or_not n (length rs)) [
-    inl here ↦ tied n ∙ ap is_due_request (slice_get_past rs n (omega arith)) ∙ sym (ap is_due_request (ap (slice_get (rs ++ r ∷ [])) here ∙ get-push_last rs r) ∙ quiet)
+  | inl here ↦ tied n ∙ ap is_due_request (slice_get_past rs n (omega arith)) ∙ sym (ap is_due_request (ap (slice_get (rs ++ r ∷ [])) here ∙ get-push_last rs r) ∙ quiet)
   | inr other ↦ tied n ∙ sym (ap is_due_request (get-push_other rs r n other))
-  ]
+]
 
 pub tied-set : (rs : List Request) (old new : List ℕ) (n : ℕ) (r : Request) → n < length rs → is_in new n ≡ is_polled_state r.state
     → ((m : ℕ) → m ≢ n → is_in new m ≡ is_in old m) → IsTied rs old → IsTied (slice_set rs n r) new
 tied-set rs old new n r lt here others tied m = elim (same_or_not m n) [
-    inl same ↦ ap (is_in new) same ∙ here ∙ sym (ap is_due_request (ap (slice_get (slice_set rs n r)) same ∙ get-set_same rs n r lt))
+  | inl same ↦ ap (is_in new) same ∙ here ∙ sym (ap is_due_request (ap (slice_get (slice_set rs n r)) same ∙ get-set_same rs n r lt))
   | inr other ↦ others m other ∙ tied m ∙ sym (ap is_due_request (get-set_other rs n m r other))
-  ]
+]
 
 -- ---- polls
 
@@ -71,7 +71,7 @@ pub poll-is : (k : Kept) (n : ℕ) (r : Request) (rs : List Request) (before nex
     → next ≡ polled_state r.state → rs ≡ slice_set k.requests n (record r { state = next }) → Polls k n reply (record k { requests = rs })
 poll-is k n r rs before next reply got told was moved set =
     subst (λ o. PollsRequest k n o reply (record k { requests = rs })) (sym got)
-        (told ∙ ap poll_reply was, ap (λ new. record k { requests = new }) (set ∙ ap (λ state. slice_set k.requests n (record r { state = state })) moved))
+    (told ∙ ap poll_reply was, ap (λ new. record k { requests = new }) (set ∙ ap (λ state. slice_set k.requests n (record r { state = state })) moved))
 
 pub poll-none : (k : Kept) (n : ℕ) (reply : Reply) → length k.requests ≤ n → reply ≡ NotLive → Polls k n reply k
 poll-none k n reply past told = subst (λ o. PollsRequest k n o reply k) (sym (slice_get_past k.requests n past)) (told, refl)

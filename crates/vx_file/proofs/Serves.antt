@@ -1,13 +1,12 @@
 -- A script that was answered over the tail of a file was served from the file.
-use Rattle.std.proofs.Common.{◌≡◌, ℕ, ◌+◌, ◌-◌, ◌≤◌, List, [], ◌∷◌, ◌++◌, length, drop, None, Ok, Err, refl, sym, ap, subst, ◌∙◌, arith, length-drop}
+use Rattle.std.proofs.Common.{◌≡◌, ℕ, ◌+◌, ◌-◌, List, [], ◌∷◌, ◌++◌, length, drop, Ok, refl, sym, ap, subst, ◌∙◌, arith, length-drop}
 use Rattle.vx_base.specs.Counts.{Rises}
 use Rattle.vx_footer.specs.declared.footer.Footer.{Footer}
-use Rattle.vx_footer.specs.Opening.{vx_grammar, tail_start, IsTail}
+use Rattle.vx_footer.specs.Opening.{vx_grammar, IsTail}
 use Rattle.vx_file.specs.declared.reply.Reply.{Reply}
-use Rattle.vx_file.specs.declared.served.Served.{Served}
 use Rattle.vx_file.specs.declared.serving.Tail.{Tail}
 use Rattle.vx_file.specs.declared.step.Step.{Step}
-use Rattle.vx_file.specs.Asked.{Entry, asked_by, Grew}
+use Rattle.vx_file.specs.Asked.{asked_by, Grew}
 use Rattle.vx_file.specs.Asking.{Known}
 use Rattle.vx_file.specs.Kept.{Kept}
 use Rattle.vx_file.specs.Serving.{ServedFrom, world_of, tail_ranges, opened}

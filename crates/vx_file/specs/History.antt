@@ -2,9 +2,9 @@
 -- first, and each word is taken after all of them.
 use Rattle.std.specs.Prelude.{ℕ, ◌+◌, Bool, true, false, ◌&&◌, not, ◌==◌, if◌then◌else◌, List, [], ◌∷◌, Option, Some, None, is_none}
 use Rattle.vx_file.specs.declared.step.Step.{Step}
-use Rattle.vx_file.specs.declared.step.Step.TheVariants.{Register, Poll, Drive}
+use Rattle.vx_file.specs.declared.step.Step.TheVariants.{Register, Poll}
 use Rattle.vx_file.specs.declared.reply.Reply.{Reply}
-use Rattle.vx_file.specs.declared.reply.Reply.TheVariants.{Registered, MissingSegment, Ready, Pending, Failed, NotLive, Driven}
+use Rattle.vx_file.specs.declared.reply.Reply.TheVariants.{Registered, Ready, Failed, NotLive, Driven}
 use Rattle.vx_file.specs.declared.span.Span.{Span}
 use Rattle.vx_file.specs.declared.span.SpanOutcome.{SpanOutcome}
 

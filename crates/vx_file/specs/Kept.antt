@@ -1,5 +1,5 @@
 -- What a session keeps, and what each of its calls does to that.
-use Rattle.std.specs.Prelude.{◌≡◌, ℕ, ◌+◌, ◌-◌, ◌<◌, Bool, true, false, nat_le, if◌then◌else◌, List, [], ◌∷◌, ◌++◌, length, Option, Some, None, slice_get, slice_set, Result, Ok, Err}
+use Rattle.std.specs.Prelude.{◌≡◌, ℕ, ◌+◌, ◌-◌, ◌<◌, Bool, true, false, nat_le, if◌then◌else◌, List, [], ◌∷◌, ◌++◌, Option, Some, None, slice_get, slice_set, Result, Ok, Err}
 use Rattle.vx_base.specs.Buffer.{Buffer, bytes_at}
 use Rattle.vx_base.specs.declared.segment.SegmentSpec.{SegmentSpec}
 use Rattle.vx_file.specs.declared.fault.Fault.{Fault}
@@ -7,7 +7,7 @@ use Rattle.vx_file.specs.declared.request.Request.{Request}
 use Rattle.vx_file.specs.declared.request.RequestState.{RequestState}
 use Rattle.vx_file.specs.declared.request.RequestState.TheVariants as state
 use Rattle.vx_file.specs.declared.reply.Reply.{Reply}
-use Rattle.vx_file.specs.declared.reply.Reply.TheVariants.{Registered, Ready, Pending, Failed, NotLive}
+use Rattle.vx_file.specs.declared.reply.Reply.TheVariants.{Ready, Pending, Failed, NotLive}
 use Rattle.vx_file.specs.declared.span.SpanOutcome.{SpanOutcome}
 use Rattle.vx_file.specs.declared.span.SpanOutcome.TheVariants.{Good, Bad}
 use Rattle.vx_file.specs.Queue.{is_in}

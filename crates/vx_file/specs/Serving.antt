@@ -1,10 +1,8 @@
 -- What serving a script from a file gives.
-use Rattle.std.specs.Prelude.{◌≡◌, ℕ, ◌+◌, ◌-◌, ◌<◌, Bool, true, false, List, [], ◌∷◌, ◌++◌, length, map, Option, Some, None, Result, Ok, Err, IsErr, ◌⊎◌, if◌then◌else◌}
-use Rattle.vx_base.specs.Asking.{Log}
+use Rattle.std.specs.Prelude.{◌≡◌, ℕ, ◌-◌, ◌<◌, Bool, true, false, List, [], ◌∷◌, ◌++◌, length, map, Some, None, Result, Ok, Err, IsErr, ◌⊎◌, if◌then◌else◌}
 use Rattle.vx_base.specs.Counts.{Rises, last_count}
 use Rattle.vx_base.specs.declared.fault.FaultKind.TheVariants.{ReadFault}
 use Rattle.vx_footer.specs.declared.footer.Footer.{Footer}
-use Rattle.vx_footer.specs.declared.error.OpenError.{OpenError}
 use Rattle.vx_footer.specs.Opening.{vx_grammar, tail_start}
 use Rattle.vx_file.specs.declared.fault.Fault.{Fault}
 use Rattle.vx_file.specs.declared.fault.Place.TheVariants.{Size, Range}

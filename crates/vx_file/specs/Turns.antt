@@ -1,5 +1,5 @@
 -- What a step or a turn of a drive does, for every history that the session stood for.
-use Rattle.std.specs.Prelude.{◌≡◌, ℕ, ◌+◌, if◌then◌else◌, List, [], ◌∷◌, ◌++◌, map, Option}
+use Rattle.std.specs.Prelude.{◌≡◌, ℕ, ◌+◌, if◌then◌else◌, List, [], ◌∷◌, ◌++◌, map}
 use Rattle.vx_base.specs.Counts.{Rises}
 use Rattle.vx_file.specs.declared.step.Step.{Step}
 use Rattle.vx_file.specs.declared.step.Step.TheVariants.{Drive}

@@ -48,7 +48,10 @@ fn bytes_of_answer(length: usize, answer: Option<RangeAnswer>) -> Result<ByteBuf
     }
 }
 
-fn read_of_answer(range: &ReadAtRequest, bytes: Result<ByteBuffer, FaultKind>) -> Result<ByteBuffer, Fault>
+fn read_of_answer(
+    range: &ReadAtRequest,
+    bytes: Result<ByteBuffer, FaultKind>,
+) -> Result<ByteBuffer, Fault>
     ensures { result ≡ read_of range.now bytes }
 {
     match bytes {

@@ -8,16 +8,15 @@ mod fault;
 mod queue;
 mod reply;
 mod request;
-mod serving;
 mod served;
+mod serving;
 mod session;
-
 mod span;
 mod step;
 
 pub use fault::{Fault, Place};
 pub use reply::Reply;
-pub use serving::serve;
 pub use served::{Opening, Replies, ServeError, Served};
+pub use serving::serve;
 pub use span::{ReadNumbers, Span, SpanOutcome, Spans};
 pub use step::Step;

@@ -85,7 +85,13 @@ pub fn serve<R: Reader>(
     let footer = read_footer(alloc, &tail)?;
     let opening = Opening::one(alloc, tail.start, tail.bytes.len() as u64)?;
     let mut session = Session::new(alloc, tail.start, tail.bytes);
-    let replies = answer_all(alloc, reader, &mut session, footer.segments.as_slice(), script)?;
+    let replies = answer_all(
+        alloc,
+        reader,
+        &mut session,
+        footer.segments.as_slice(),
+        script,
+    )?;
     Ok(Served {
         footer,
         opening,

@@ -1,19 +1,18 @@
 -- The checks on the tail of a file are those on the file.
-use Rattle.std.proofs.Common.{◌≡◌, ℕ, ◌+◌, ◌-◌, ◌≤◌, ◌<◌, Bool, true, false, cond, List, [], ◌∷◌, length, take, drop, refl, sym, ap, subst, ◌∙◌, arith, min, nat_lt, Option, Some, None, Result, Ok, Err, length-drop, ◌⊎◌, inl, inr}
+use Rattle.std.proofs.Common.{◌≡◌, ℕ, ◌+◌, ◌-◌, ◌≤◌, Bool, true, false, cond, List, length, take, drop, refl, sym, ap, ◌∙◌, arith, Option, Some, None, Result, Ok, Err, length-drop, ◌⊎◌, inl, inr}
 use Rattle.std.specs.Prelude.{nat_le, ◌==◌, ◌&&◌, codes}
 use Rattle.std.specs.Str.{bytes_eq}
 use Rattle.std.specs.Int.{w16, from_le_bytes}
 use Rattle.std.proofs.lemmas.Bool.Decides.{nat_tests}
 use Rattle.std.proofs.lemmas.Bool.{cases_lt}
 use Rattle.std.proofs.lemmas.List.{drop-drop}
-use Rattle.std.proofs.lemmas.Grind.{common_steps}
 use Rattle.vx_base.specs.Buffer.{bytes_at}
 use Rattle.vx_footer.specs.declared.error.OpenError.{OpenError}
 use Rattle.vx_footer.specs.declared.error.OpenError.TheVariants.{TooSmall, BadMagic, BadVersion, PostscriptTooLong, Unsupported}
 use Rattle.vx_footer.specs.declared.footer.Footer.{Footer}
 use Rattle.vx_footer.specs.declared.table.Locator.{Locator}
 use Rattle.vx_footer.specs.declared.table.Tables.{Tables}
-use Rattle.vx_footer.specs.Opening.{◌>>=◌, ◌unless◌, ◌lacking◌, marker_of, postscript_length, postscript_bytes, end_checks, postscript_checks, least_offset, table_bytes, table_checks, opening_checks, tail_start, vx_grammar, seen_bytes, seen_checks, IsTail}
+use Rattle.vx_footer.specs.Opening.{◌>>=◌, ◌unless◌, marker_of, postscript_length, postscript_bytes, end_checks, postscript_checks, least_offset, table_bytes, table_checks, opening_checks, vx_grammar, seen_bytes, seen_checks, IsTail}
 
 -- ---- the end marker
 
@@ -76,14 +75,14 @@ long-same file start tail e total long =
     let last : marker_of file ≡ marker_of tail = sym (ap (drop (length tail - 8)) e ∙ drop-drop_at start (length tail - 8) (length file - 8) file (omega arith)) in
     let same : postscript_length file ≡ postscript_length tail = ap size_in last in
     let fits : nat_le (size_in (marker_of file)) 65527 ≡ true → nat_le (postscript_length file + 8) (length file) ≡ nat_le (postscript_length tail + 8) (length tail) = λ h.
-        let short : postscript_length file ≤ 65527 = nat_le-is _ _ h in
-        nat_le-true (postscript_length file + 8) (length file) (omega arith) ∙ sym (nat_le-true (postscript_length tail + 8) (length tail) (omega arith)) in
+    let short : postscript_length file ≤ 65527 = nat_le-is _ _ h in
+    nat_le-true (postscript_length file + 8) (length file) (omega arith) ∙ sym (nat_le-true (postscript_length tail + 8) (length tail) (omega arith)) in
     let bytes : nat_le (size_in (marker_of file)) 65527 ≡ true → postscript_bytes file ≡ postscript_bytes tail = λ h.
-        let short : postscript_length file ≤ 65527 = nat_le-is _ _ h in
-        bytes_at-seen file start (length file - 8 - postscript_length file) (postscript_length file) (omega arith)
-        ∙ ap (λ b. bytes_at b (length file - 8 - postscript_length file - start) (postscript_length file)) (sym e)
-        ∙ ap (λ n. bytes_at tail n (postscript_length file)) (let same_place : length file - 8 - postscript_length file - start ≡ length tail - 8 - postscript_length tail = omega arith in same_place)
-        ∙ ap (bytes_at tail (length tail - 8 - postscript_length tail)) same in
+    let short : postscript_length file ≤ 65527 = nat_le-is _ _ h in
+    bytes_at-seen file start (length file - 8 - postscript_length file) (postscript_length file) (omega arith)
+    ∙ ap (λ b. bytes_at b (length file - 8 - postscript_length file - start) (postscript_length file)) (sym e)
+    ∙ ap (λ n. bytes_at tail n (postscript_length file)) (let same_place : length file - 8 - postscript_length file - start ≡ length tail - 8 - postscript_length tail = omega arith in same_place)
+    ∙ ap (bytes_at tail (length tail - 8 - postscript_length tail)) same in
     end_checks-is file
     ∙ ends-same (marker_of file) (nat_le 8 (length file)) _ _ _ _ fits bytes
     ∙ ap (λ m. ends m (nat_le 8 (length file)) (nat_le (postscript_length tail + 8) (length tail)) (postscript_bytes tail)) last

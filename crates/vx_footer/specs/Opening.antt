@@ -1,6 +1,6 @@
 -- What a file is: the opening checks in order, each a named condition on the whole file, and the footer
 -- where all of them hold. The first check that fails names the refusal.
-use Rattle.std.specs.Prelude.{ℕ, ◌≡◌, ◌≤◌, ◌+◌, ◌-◌, Bool, ◌&&◌, ◌||◌, true, false, not, ◌==◌, nat_le, nat_lt, min, if◌then◌else◌, List, [], ◌∷◌, length, take, drop, codes, Option, Some, None, is_some, is_none, slice_get, Result, Ok, Err}
+use Rattle.std.specs.Prelude.{ℕ, ◌≡◌, ◌≤◌, ◌+◌, ◌-◌, Bool, ◌&&◌, ◌||◌, true, not, ◌==◌, nat_le, min, if◌then◌else◌, List, [], ◌∷◌, length, take, drop, codes, Option, Some, None, is_none, slice_get, Result, Ok, Err}
 use Rattle.std.specs.Int.{w16, from_le_bytes}
 use Rattle.std.specs.Str.{bytes_eq}
 use Rattle.vx_base.specs.Buffer.{bytes_at}

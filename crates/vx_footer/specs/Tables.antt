@@ -1,5 +1,5 @@
 -- The tables of a file as they stand: the grammar of each, with the visits and levels that it takes.
-use Rattle.std.specs.Prelude.{◌≡◌, ℕ, Bool, ◌||◌, not, ◌==◌, nat_le, if◌then◌else◌, List, [], length, take, drop, Option, Some, None, is_some, unwrap_or, Result, Ok, Err}
+use Rattle.std.specs.Prelude.{◌≡◌, ℕ, ◌||◌, not, ◌==◌, nat_le, if◌then◌else◌, List, length, take, drop, Option, Some, None, is_some, unwrap_or, Result, Ok, Err}
 use Rattle.std.specs.Int.{w8, w16, w32, w64, from_le_bytes}
 use Rattle.vx_tables.specs.declared.elements.Elements.{Elements}
 use Rattle.vx_tables.specs.declared.elements.Elements.TheVariants.{Numbers, Offsets, Segments}

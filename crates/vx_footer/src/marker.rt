@@ -4,8 +4,11 @@ ghost use Rattle.vx_footer.specs.Opening.{end_checks, Gives};
 use crate::OpenError;
 
 const MARKER_SIZE: usize = 8;
+
 const VERSION: u16 = 1;
+
 const MAGIC: &[u8] = b"VTXF";
+
 const MAX_POSTSCRIPT_SIZE: usize = 65527;
 
 /// The postscript's bytes, from the last bytes of a file.

@@ -13,6 +13,7 @@ use std::alloc::Global;
 use vx_base::{Alignment, SegmentId, SegmentSpec};
 
 const INTEGER: u8 = 2;
+
 const MOST_IDS: usize = 16;
 
 fn ptype_at(number: u8) -> Option<PType>

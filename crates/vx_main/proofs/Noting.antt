@@ -1,9 +1,8 @@
 -- The segments that a script registers, as a list and as a set.
-use Rattle.std.proofs.Common.{◌≡◌, ◌≢◌, ℕ, suc, ◌+◌, ◌<◌, ◌≤◌, Bool, true, false, cond, not, List, [], ◌∷◌, length, drop, get_or, refl, sym, ap, subst, ◌∙◌, arith, ◌⊎◌, inl, inr, drop-cons, add-one}
+use Rattle.std.proofs.Common.{◌≡◌, ◌≢◌, ℕ, ◌+◌, ◌<◌, Bool, true, false, cond, List, [], ◌∷◌, length, drop, get_or, refl, sym, ap, ◌∙◌, arith, ◌⊎◌, inl, inr, drop-cons, add-one}
 use Rattle.std.specs.Prelude.{◌==◌}
 use Rattle.std.proofs.lemmas.Bool.{cases_lt}
 use Rattle.std.proofs.lemmas.Bool.Decides.{nat_tests}
-use Rattle.std.proofs.lemmas.List.{drop_all}
 use Rattle.vx_file.specs.declared.step.Step.{Step}
 use Rattle.vx_file.specs.declared.step.Step.TheVariants.{Register, Poll, Drive}
 use Rattle.vx_file.specs.History.{is_among}
@@ -21,9 +20,9 @@ noted-starts script = record { listed = []; tied = λ n. refl; same = refl }
 
 same_or_not : (m n : ℕ) → (m ≡ n) ⊎ (m ≢ n)
 same_or_not m n = elim (cases_lt m n) [
-    inl less ↦ inr (λ e. omega arith)
+  | inl less ↦ inr (λ e. omega arith)
   | inr more ↦ elim (cases_lt n m) [ inl greater ↦ inr (λ e. omega arith) | inr same ↦ inl (omega arith) ]
-  ]
+]
 
 eq-same : (n : ℕ) → (n == n) ≡ true
 eq-same n = grind (arith, nat_tests)
@@ -49,9 +48,9 @@ pub noted-adds : (keys keys' : List ℕ) (segment : ℕ) (rest script : List Ste
 noted-adds keys keys' segment rest script absent added others h = record {
   listed = segment ∷ h.listed;
   tied = λ n. elim (same_or_not n segment) [
-      inl same ↦ ap (is_in keys') same ∙ added ∙ sym (ap (λ m. is_among m (segment ∷ h.listed)) same ∙ ap (λ t. cond t true (is_among segment h.listed)) (eq-same segment))
+    | inl same ↦ ap (is_in keys') same ∙ added ∙ sym (ap (λ m. is_among m (segment ∷ h.listed)) same ∙ ap (λ t. cond t true (is_among segment h.listed)) (eq-same segment))
     | inr other ↦ others n other ∙ h.tied n ∙ sym (ap (λ t. cond t true (is_among n h.listed)) (eq-other n segment other))
-    ];
+  ];
   same = sym (ap (λ t. cond t true (repeats (segment ∷ h.listed) rest)) (sym (h.tied segment) ∙ absent)) ∙ h.same;
 }
 

@@ -1,5 +1,5 @@
 -- The cause of an answer, from the causes of its parts.
-use Rattle.std.proofs.Common.{◌≡◌, ℕ, ◌+◌, ◌≤◌, min, List, [], ◌∷◌, ◌++◌, length, true, false, Option, Some, None, Result, Ok, Err, refl, sym, ap, subst, ◌∙◌, arith}
+use Rattle.std.proofs.Common.{◌≡◌, ℕ, ◌+◌, ◌≤◌, min, List, [], ◌∷◌, ◌++◌, true, Option, Some, Result, Ok, Err, ap, subst, ◌∙◌, arith}
 use Rattle.std.specs.Prelude.{Vec}
 use Rattle.std.specs.Global.{Global}
 use Rattle.std.specs.Option.{option_map}
@@ -51,8 +51,11 @@ serves-file : (file name : List ℕ) (script : List Step) (before now : FilesKno
     → ServesFile file name script before now text
 serves-file file name script before now opened served text lent h = record {
   served = h.served;
-  footer = h.serves.footer; opening = h.serves.opening; fits = h.serves.fits;
-  log = served.log; returned = lent.returned;
+  footer = h.serves.footer;
+  opening = h.serves.opening;
+  fits = h.serves.fits;
+  log = served.log;
+  returned = lent.returned;
   asked = λ all told. fresh-log (asked h.served) opened.log served.log (lent.fresh all told) h.serves.asked;
   bad = rises-through (bad_replies h.served.replies) before.read_faults now.read_faults opened.faults served.faults lent.faultless lent.counted lent.never_falls h.serves.bad;
   rendered = h.rendered;

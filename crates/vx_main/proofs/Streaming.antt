@@ -1,5 +1,5 @@
 -- Streams, turn by turn.
-use Rattle.std.proofs.Common.{◌≡◌, ℕ, ◌+◌, ◌-◌, ◌<◌, ◌≤◌, List, [], ◌∷◌, ◌++◌, length, take, drop, Option, Some, None, Result, Ok, Err, refl, sym, ap, subst, ◌∙◌, arith, append_assoc, length-drop}
+use Rattle.std.proofs.Common.{◌≡◌, ℕ, ◌+◌, ◌-◌, ◌≤◌, List, [], ◌++◌, length, take, drop, Option, Some, None, Err, refl, sym, ap, subst, ◌∙◌, arith, append_assoc, length-drop}
 use Rattle.std.specs.Option.{option_map}
 use Rattle.std.proofs.lemmas.List.{drop-drop, drop_all, append-nil, take-append-drop}
 use Rattle.std.proofs.Math.Seq.{take-add}
@@ -16,10 +16,11 @@ Reading r rest text k = (rest ≡ Some (drop k r)) × (text ≡ take k r) × (k 
 
 pub reading-turn : (r : List ℕ) (rest rest' : Option (List ℕ)) (text text' : List ℕ) (k k' n : ℕ) → Reading r rest text k
     → (n ≤ length (drop k r)) × (rest' ≡ Some (drop n (drop k r))) × (text' ≡ text ++ take n (drop k r)) → k' ≡ k + n → Reading r rest' text' k'
-reading-turn r rest rest' text text' k k' n h t e =
-    (t.1 ∙ ap Some (drop-drop n k r ∙ ap (λ m. drop m r) (sym e)),
-     t.2 ∙ ap (λ x. x ++ take n (drop k r)) h.1 ∙ sym (take-add k n r) ∙ ap (λ m. take m r) (sym e),
-     omega (arith, t.0, length-drop k r, h.2))
+reading-turn r rest rest' text text' k k' n h t e = (
+  t.1 ∙ ap Some (drop-drop n k r ∙ ap (λ m. drop m r) (sym e)),
+  t.2 ∙ ap (λ x. x ++ take n (drop k r)) h.1 ∙ sym (take-add k n r) ∙ ap (λ m. take m r) (sym e),
+  omega (arith, t.0, length-drop k r, h.2),
+)
 
 pub reading-ends : (r : List ℕ) (rest rest' : Option (List ℕ)) (text text' : List ℕ) (k k' n faults : ℕ) → Reading r rest text k
     → (n ≤ length (drop k r)) × (rest' ≡ Some (drop n (drop k r))) × (text' ≡ text ++ take n (drop k r)) → k' ≡ k + n → drop k r ≡ [] → k ≤ most_input
@@ -27,9 +28,10 @@ pub reading-ends : (r : List ℕ) (rest rest' : Option (List ℕ)) (text text' :
 reading-ends r rest rest' text text' k k' n faults h t e none bound =
     let all : take k r ≡ r = sym (append-nil (take k r)) ∙ sym (ap (λ x. take k r ++ x) none) ∙ take-append-drop k r in
     let nothing : n ≡ 0 = omega (arith, t.0, ap length none) in
-    let size : length r ≡ k = omega (arith, length-drop k r, ap length none, h.2) in
-    (t.2 ∙ ap (λ m. text ++ take m (drop k r)) nothing ∙ append-nil text ∙ h.1 ∙ all,
-     record { ended = t.1 ∙ ap (λ m. Some (drop m (drop k r))) nothing ∙ ap Some none; short = omega (arith, size) })
+    let size : length r ≡ k = omega (arith, length-drop k r, ap length none, h.2) in (
+      t.2 ∙ ap (λ m. text ++ take m (drop k r)) nothing ∙ append-nil text ∙ h.1 ∙ all,
+      record { ended = t.1 ∙ ap (λ m. Some (drop m (drop k r))) nothing ∙ ap Some none; short = omega (arith, size) },
+    )
 
 pub reading-long : (r : List ℕ) (rest : Option (List ℕ)) (text : List ℕ) (k faults : ℕ) → Reading r rest text k → k ≡ most_input + 1 → TooLong r (record { rest = rest; faults = faults })
 reading-long r rest text k faults h e = record { long = omega (arith, h.2); taken = h.0 ∙ ap (λ m. Some (drop m r)) e }

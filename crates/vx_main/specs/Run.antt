@@ -1,9 +1,9 @@
 -- What a run of the program answers.
-use Rattle.std.specs.Prelude.{◌≡◌, ℕ, ◌+◌, ◌<◌, Bool, true, false, List, [], ◌∷◌, ◌++◌, length, codes, decimal, Option, Some, None, Result, Ok, Err, IsErr, ◌⊎◌, if◌then◌else◌, Vec}
+use Rattle.std.specs.Prelude.{◌≡◌, ℕ, true, false, List, [], ◌∷◌, ◌++◌, length, codes, decimal, Option, Some, None, Result, Ok, Err, IsErr, ◌⊎◌, Vec}
 use Rattle.std.specs.Global.{Global}
 use Rattle.std.specs.Option.{option_map}
 use Rattle.vx_base.specs.Asking.{Log}
-use Rattle.vx_base.specs.Counts.{Rises, last_count}
+use Rattle.vx_base.specs.Counts.{Rises}
 use Rattle.vx_base.specs.Returning.{Returned}
 use Rattle.vx_footer.specs.Opening.{vx_grammar}
 use Rattle.vx_file.specs.declared.fault.Fault.{Fault}
@@ -19,10 +19,9 @@ use Rattle.vx_main.specs.declared.command.Command.{Command}
 use Rattle.vx_main.specs.declared.command.Command.TheVariants.{Help, Version, Serve}
 use Rattle.vx_main.specs.declared.failure.Failure.{Failure}
 use Rattle.vx_main.specs.declared.failure.Failure.TheVariants as failures
-use Rattle.vx_main.specs.Command.{command_of, name_of}
 use Rattle.vx_main.specs.Render.{render_text, fault_words}
 use Rattle.vx_main.specs.Script.{script_of}
-use Rattle.vx_main.specs.Streams.{SourceKnown, ReadToEnd, TooLong, Took, TookPrefix, most_input}
+use Rattle.vx_main.specs.Streams.{SourceKnown, ReadToEnd, TooLong, Took, TookPrefix}
 
 -- ---- statuses and their texts
 

@@ -36,9 +36,9 @@ numbered_step [] = None
 numbered_step (letter ∷ []) = None
 numbered_step (letter ∷ space ∷ digits) =
     if space == 32 then
-        (if letter == 114 then register_of (number_of digits)
-        else if letter == 112 then poll_of (number_of digits)
-        else None)
+    (if letter == 114 then register_of (number_of digits)
+    else if letter == 112 then poll_of (number_of digits)
+    else None)
     else None
 
 -- `r SEGMENT` registers, `p NUMBER` polls, `go` drives

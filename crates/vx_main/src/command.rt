@@ -38,7 +38,11 @@ fn lone(word: &str) -> Option<Command>
 fn serve(word: &str, name: &str) -> Option<Command>
     ensures { result ≡ serve_command word.now name.now }
 {
-    if word == "serve" && is_name(name) { Some(Command::Serve) } else { None }
+    if word == "serve" && is_name(name) {
+        Some(Command::Serve)
+    } else {
+        None
+    }
 }
 
 /// The command that some words spell, if they spell one.

@@ -10,9 +10,8 @@ mod repeats;
 mod run;
 mod script;
 
-use std::env;
-use std::io;
 use std::process::ExitCode;
+use std::{env, io};
 use vx_base::{FileOpener, StdSink, StdSource};
 
 /// The words after the program's name.

@@ -67,7 +67,11 @@ fn hex_digit(number: u8) -> u8
     requires { number < 16 }
     ensures { result ≡ upper_hex_digit number }
 {
-    if number < 10 { b'0' + number } else { b'A' - 10 + number }
+    if number < 10 {
+        b'0' + number
+    } else {
+        b'A' - 10 + number
+    }
 }
 
 fn put_quoted_byte(text: &mut Vec<u8>, byte: u8) -> Result<(), AllocError>
@@ -122,7 +126,12 @@ fn put_segments(text: &mut Vec<u8>, segments: &[SegmentSpec]) -> Result<(), Allo
         put_line(
             text,
             b"segment",
-            &[i as u64, segment.offset, u64::from(segment.length), exponent],
+            &[
+                i as u64,
+                segment.offset,
+                u64::from(segment.length),
+                exponent,
+            ],
         )?;
     }
     Ok(())
@@ -153,7 +162,11 @@ fn put_footer(text: &mut Vec<u8>, footer: &Footer) -> Result<(), AllocError>
 {
     put_line(text, b"rows", &[footer.row_count])?;
     put_dtype(text, footer.ptype)?;
-    put_line(text, b"layout 0 flat", &[footer.row_count, u64::from(footer.segment.0)])?;
+    put_line(
+        text,
+        b"layout 0 flat",
+        &[footer.row_count, u64::from(footer.segment.0)],
+    )?;
     put_segments(text, footer.segments.as_slice())?;
     put_arrays(text, &footer.array_ids)
 }

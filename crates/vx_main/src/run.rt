@@ -18,7 +18,8 @@ use std::alloc::{AllocError, Global};
 use vx_base::{Opener, OpenerError, Reader, Sink, SinkError, Source};
 use vx_file::{ServeError, Step, serve};
 
-const HELP: &[u8] = b"usage: vx serve NAME\n\nServes the file NAME: reads a script from standard input, a step a line\n(r SEGMENT registers, p NUMBER polls, go drives), and prints the footer and\none reply per step.\n";
+const HELP: &[u8] =
+    b"usage: vx serve NAME\n\nServes the file NAME: reads a script from standard input, a step a line\n(r SEGMENT registers, p NUMBER polls, go drives), and prints the footer and\none reply per step.\n";
 
 const VERSION: &[u8] = b"vx 0.1.0\n";
 

@@ -10,7 +10,7 @@ loop-step-preserved g c =
     record {
       answering = λ w told table stands. rw c.in_ok-push.ensures.ok
           (answering-turn w c.args.script.now c.loop-step.step-index (Register 0) _ _ _ c.loop-step.replies c.in_ok-reply.reply c.loop-step.session c.answer.new.session (omega arith)
-              (invariant.answering w told table stands) (λ past. c.in_ok-reply.ensures.replied w past (invariant.same_bytes ∙ told) table));
+          (invariant.answering w told table stands) (λ past. c.in_ok-reply.ensures.replied w past (invariant.same_bytes ∙ told) table));
       tail = tail-kept _ _ _ invariant.tail c.in_ok-reply.ensures.tail;
       same_bytes = c.in_ok-reply.ensures.same_bytes ∙ invariant.same_bytes;
       same_soundness = c.in_ok-reply.ensures.same_soundness ∙ invariant.same_soundness;

@@ -1,4 +1,4 @@
-use Rattle.std.proofs.Common.{◌≡◌, ◌≤◌, List, [], drop, Some}
+use Rattle.std.proofs.Common.{◌≡◌, ◌≤◌, [], drop, Some}
 use Rattle.vx_file.specs.Fits.{World}
 use Rattle.vx_file.specs.Stands.{Stands}
 use Rattle.vx_file.specs.Turns.{KeepsTail, Answering}

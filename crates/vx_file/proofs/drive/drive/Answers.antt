@@ -1,4 +1,4 @@
-use Rattle.std.proofs.Common.{◌∙◌, subst, sym, ap, arith, Some}
+use Rattle.std.proofs.Common.{◌∙◌, arith}
 use Rattle.vx_file.proofs.Driving.{so_far-goes_on, so_far-idle, tail-kept}
 use Rattle.vx_file.proofs.drive.drive.Goals as goal
 

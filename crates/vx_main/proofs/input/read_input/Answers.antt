@@ -1,6 +1,5 @@
-use Rattle.std.proofs.Common.{◌≡◌, ◌∙◌, ap, sym, subst, arith, rules, Err, length, take, ℕ, Vec, Global}
+use Rattle.std.proofs.Common.{◌≡◌, ◌∙◌, ap, sym, arith, rules, Err, length, take, ℕ, Vec, Global}
 use Rattle.std.proofs.lemmas.Result.{err_from_is_err_and}
-use Rattle.vx_main.specs.Streams.{InputCause}
 use Rattle.vx_main.proofs.Streaming.{reading-turn, reading-ends, reading-long, err-cause, rises-from}
 use Rattle.vx_main.proofs.input.read_input.Goals as goal
 

@@ -1,7 +1,5 @@
-use Rattle.std.proofs.Common.{◌≡◌, ◌∙◌, ◌+◌, ◌-◌, ◌<◌, ◌≤◌, ap, sym, subst, arith, length, take, drop, length-drop, rules}
-use Rattle.std.proofs.lemmas.List.{drop-drop}
-use Rattle.vx_main.specs.Streams.{Took}
-use Rattle.vx_main.proofs.Streaming.{took-more, write-turn}
+use Rattle.std.proofs.Common.{arith}
+use Rattle.vx_main.proofs.Streaming.{write-turn}
 use Rattle.vx_main.proofs.output.write_all.Goals as goal
 
 pub loop-rest-preserved : goal.loop-rest-preserved

@@ -1,5 +1,4 @@
-use Rattle.std.proofs.Common.{◌≡◌, ℕ, List, [], drop}
-use Rattle.vx_file.specs.Serving.{repeats}
+use Rattle.std.proofs.Common.{drop}
 use Rattle.vx_main.proofs.Noting.{Noted}
 use Rattle.vx_main.proofs.repeats.has_repeats.Given as goal
 

@@ -1,4 +1,4 @@
-use Rattle.std.proofs.Common.{◌∙◌, subst, sym}
+use Rattle.std.proofs.Common.{subst}
 use Rattle.vx_main.specs.Reading.{StepsCause}
 use Rattle.vx_main.proofs.Runs.{script-cause}
 use Rattle.vx_main.proofs.run.load_script.Goals as goal

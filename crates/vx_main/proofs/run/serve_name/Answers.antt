@@ -1,4 +1,4 @@
-use Rattle.std.proofs.Common.{◌≡◌, ◌∙◌, ℕ, ◌+◌, ◌≤◌, min, ◌∷◌, [], ◌++◌, List, Option, ap, sym, subst}
+use Rattle.std.proofs.Common.{◌∙◌, ℕ, ◌+◌, ◌≤◌, min, ◌∷◌, [], ◌++◌, List, Option, ap, subst}
 use Rattle.std.specs.Option.{option_map}
 use Rattle.vx_base.specs.Counts.{last_count}
 use Rattle.vx_base.specs.Returning.{Returned}
@@ -23,11 +23,13 @@ returns g c =
     record {
       cause = file-cause name c.args.script.now before now opened served c.serve_reader-answer.result
           (record {
-              told = given.told; fresh = given.fresh; faultless = given.faultless;
-              asked = back.same_asked ∙ given.opened;
-              returned = back.returned ∙ ap (λ (all : Option (List Returned)). option_map (λ l. l ++ record { name = name; log = R.log used } ∷ []) all) given.same_returned;
-              counted = back.counted ∙ ap (λ (n : ℕ). min (n + R.faults used) last_count) given.same_read_faults;
-              never_falls = subst (λ (n : ℕ). n ≤ O.read_faults c.take_back.new.self) given.same_read_faults back.never_falls;
+            told = given.told;
+            fresh = given.fresh;
+            faultless = given.faultless;
+            asked = back.same_asked ∙ given.opened;
+            returned = back.returned ∙ ap (λ (all : Option (List Returned)). option_map (λ l. l ++ record { name = name; log = R.log used } ∷ []) all) given.same_returned;
+            counted = back.counted ∙ ap (λ (n : ℕ). min (n + R.faults used) last_count) given.same_read_faults;
+            never_falls = subst (λ (n : ℕ). n ≤ O.read_faults c.take_back.new.self) given.same_read_faults back.never_falls;
           })
           c.serve_reader-answer.ensures.cause c.serve_reader-answer.ensures.read;
     }

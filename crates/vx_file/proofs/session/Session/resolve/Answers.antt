@@ -1,4 +1,4 @@
-use Rattle.std.proofs.Common.{◌≡◌, ◌<◌, ◌∙◌, ap, sym, subst, arith, length, Some, true, rules}
+use Rattle.std.proofs.Common.{◌≡◌, ◌<◌, ◌∙◌, ap, sym, arith, length, Some, true, rules}
 use Rattle.std.specs.Prelude.{slice_get}
 use Rattle.std.proofs.lemmas.Option.{slice_get_read}
 use Rattle.vx_file.specs.Queue.{is_in}
@@ -12,9 +12,10 @@ invariant_of-self c =
     let due : is_due_at c.self.inside.requests.items c.args.number ≡ true = ap (λ (k : Kept). is_due_at k.requests c.args.number) c.self.view_is ∙ c.requires in
     let lt : c.args.number < length c.self.inside.requests.items = due-within _ _ due in
     let got : slice_get c.self.inside.requests.items c.args.number ≡ Some r = slice_get_read c.self.inside.requests.items c.self.inside.requests.len c.args.number r (search rules) (omega arith) c.index.ensures in
-    let here : is_in c.remove.new.self c.args.number ≡ is_polled_state c.state_of-state.result = c.remove.ensures.removed ∙ sym (ap is_polled_state c.state_of-state.ensures ∙ read-quiet r.spec c.args.read) in
-    (c.self.invariant.0,
-     rw (c.replace_state.ensures.after r got) (tied-set c.self.inside.requests.items c.self.inside.queue c.remove.new.self c.args.number (record r { state = c.state_of-state.result }) lt here c.remove.ensures.others c.self.invariant.1))
+    let here : is_in c.remove.new.self c.args.number ≡ is_polled_state c.state_of-state.result = c.remove.ensures.removed ∙ sym (ap is_polled_state c.state_of-state.ensures ∙ read-quiet r.spec c.args.read) in (
+      c.self.invariant.0,
+      rw (c.replace_state.ensures.after r got) (tied-set c.self.inside.requests.items c.self.inside.queue c.remove.new.self c.args.number (record r { state = c.state_of-state.result }) lt here c.remove.ensures.others c.self.invariant.1),
+    )
 
 pub returns : goal.returns
 returns c = λ r found.
