@@ -9,6 +9,8 @@ mod render;
 mod repeats;
 mod run;
 mod script;
+#[cfg(test)]
+mod tests;
 
 use std::process::ExitCode;
 use std::{env, io};
