@@ -1,1 +1,3 @@
+pub mod AlignedLemmas
 pub mod MatchingLemmas
+pub mod MemoryLemmas

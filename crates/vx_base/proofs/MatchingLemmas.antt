@@ -7,7 +7,7 @@ use Rattle.std.proofs.lemmas.Option.{slice_get_read, slice_get_past}
 use Rattle.std.proofs.lemmas.List.Folds.{find_at}
 use Rattle.std.specs.Option.{option_map}
 use Rattle.std.specs.List.{position_or_len}
-use Rattle.vx_base.specs.Asking.{Log, Asked, logged, names, without_first, without_answer, mark_of, mark_of_answer}
+use Rattle.vx_base.specs.Asking.{Log, logged, names, without_first, without_answer, mark_of, mark_of_answer}
 use Rattle.vx_base.specs.Outlines.{outline_of, outlines, mark_of_outline}
 use Rattle.vx_base.specs.declared.answer.ReadAtRequest.{ReadAtRequest}
 use Rattle.vx_base.specs.declared.answer.RangeAnswer.{RangeAnswer}
@@ -29,14 +29,14 @@ place-is p xs i h = grind (arith, nat_tests)
 -- where the first that passes has a place, it stands there
 pub place-found : {X : Type 0} (p : X → Bool) (xs : List X) (i : ℕ) (x : X) → position p xs ≡ Some i → x ≡ slice_index_or xs i x → Some x ≡ find p xs
 place-found p xs i x h e =
-  let k = place-is p xs i h in
-  let g = slice_get_read xs (length xs) i x refl k.1 e in
-  sym (find_at p xs ∙ ap (slice_get xs) k.0 ∙ g)
+    let k = place-is p xs i h in
+    let g = slice_get_read xs (length xs) i x refl k.1 e in
+    sym (find_at p xs ∙ ap (slice_get xs) k.0 ∙ g)
 
 pub place-left : {X : Type 0} (p : X → Bool) (xs : List X) (i : ℕ) → position p xs ≡ Some i → remove xs i ≡ without_first p xs
 place-left p xs i h =
-  let k = place-is p xs i h in
-  sym (without_first-at p xs ∙ ap (λ n. take n xs ++ drop (suc n) xs) k.0)
+    let k = place-is p xs i h in
+    sym (without_first-at p xs ∙ ap (λ n. take n xs ++ drop (suc n) xs) k.0)
 
 -- where none passes there is no place
 pub no_place-is : {X : Type 0} (p : X → Bool) (xs : List X) → position p xs ≡ None → length xs ≤ position_or_len p xs
@@ -47,9 +47,9 @@ no_place-found p xs h = sym (find_at p xs ∙ slice_get_past xs (position_or_len
 
 pub no_place-left : {X : Type 0} (p : X → Bool) (xs : List X) → position p xs ≡ None → xs ≡ without_first p xs
 no_place-left p xs h =
-  let k = no_place-is p xs h in
-  let f = without_first-at p xs in
-  grind (arith, common_steps)
+    let k = no_place-is p xs h in
+    let f = without_first-at p xs in
+    grind (arith, common_steps)
 
 -- the first of a mapped list
 pub find-map : {X Y : Type 0} (p : Y → Bool) (f : X → Y) (xs : List X) → find p (map f xs) ≡ option_map f (find (λ x. p (f x)) xs)
@@ -78,14 +78,14 @@ mark_of_outline-map size (Some a) = elim (a.result) as (λ r. mark_of_outline si
 abbrev pub logged_outlines : List ReadAtRequest → List Outline → Log
 logged_outlines [] left = []
 logged_outlines (r ∷ rest) left =
-  record { range = r; mark = mark_of_outline r.length (find (outlines r) left) } ∷ logged_outlines rest (without_first (outlines r) left)
+    record { range = r; mark = mark_of_outline r.length (find (outlines r) left) } ∷ logged_outlines rest (without_first (outlines r) left)
 
 -- it is the log by answers
 pub logged_outlines-map : (asked : List ReadAtRequest) (answers : List RangeAnswer) → logged_outlines asked (map outline_of answers) ≡ logged asked answers
 logged_outlines-map [] answers = refl
 logged_outlines-map (r ∷ rest) answers =
-  let found = find-map (outlines r) outline_of answers in
-  let marks : mark_of_outline r.length (find (outlines r) (map outline_of answers)) ≡ mark_of r answers = ap (mark_of_outline r.length) found ∙ mark_of_outline-map r.length (find (names r) answers) in
-  let left = without_first-map (outlines r) outline_of answers in
-  let others : logged_outlines rest (without_first (outlines r) (map outline_of answers)) ≡ logged rest (without_answer r answers) = ap (logged_outlines rest) left ∙ logged_outlines-map rest (without_answer r answers) in
-  cc (marks, others)
+    let found = find-map (outlines r) outline_of answers in
+    let marks : mark_of_outline r.length (find (outlines r) (map outline_of answers)) ≡ mark_of r answers = ap (mark_of_outline r.length) found ∙ mark_of_outline-map r.length (find (names r) answers) in
+    let left = without_first-map (outlines r) outline_of answers in
+    let others : logged_outlines rest (without_first (outlines r) (map outline_of answers)) ≡ logged rest (without_answer r answers) = ap (logged_outlines rest) left ∙ logged_outlines-map rest (without_answer r answers) in
+    cc (marks, others)

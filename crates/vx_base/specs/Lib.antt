@@ -3,5 +3,7 @@ pub mod Asking
 pub mod Buffer
 pub mod Counts
 pub mod FaultName
+pub mod Memory
 pub mod Outlines
 pub mod Returning
+pub mod Streams

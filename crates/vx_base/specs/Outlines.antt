@@ -1,7 +1,7 @@
 -- Answers without their bytes, which are matched in their place.
-use Rattle.std.specs.Prelude.{ℕ, Bool, List, length, find, Option, Some, None, Ok, Err, Result}
+use Rattle.std.specs.Prelude.{ℕ, Bool, length, Option, Some, None, Ok, Err, Result}
 use Rattle.vx_base.specs.Buffer.{Buffer}
-use Rattle.vx_base.specs.Asking.{same_range, without_first, mark_of_bytes}
+use Rattle.vx_base.specs.Asking.{same_range, mark_of_bytes}
 use Rattle.vx_base.specs.declared.answer.ReadAtRequest.{ReadAtRequest}
 use Rattle.vx_base.specs.declared.answer.RangeAnswer.{RangeAnswer}
 use Rattle.vx_base.specs.declared.matching.Outline.{Outline}

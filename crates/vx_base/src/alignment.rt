@@ -67,6 +67,8 @@ impl Alignment {
     pub fn down(&self, offset: u64) -> u64
         ensures value { result ≡ align_down self.now offset }
         ensures below { result ≤ offset }
+        ensures multiple { result % 2 ^ self.now ≡ 0 }
+        ensures greatest { offset < result + 2 ^ self.now }
     {
         offset - offset % self.as_u64()
     }

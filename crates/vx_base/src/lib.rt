@@ -4,20 +4,37 @@
 // and writes the outside, with implementations over memory and over real files.
 mod alignment;
 mod answer;
+mod answers;
 mod buffer;
 mod fault;
+mod file_reader;
 mod matching;
+mod mem_opener;
+mod mem_reader;
+mod mem_stream;
+mod mischief;
 mod opener;
 mod reader;
 mod segment;
+mod std_stream;
 mod stream;
+#[cfg(test)]
+mod tests;
+mod windowed;
 
 pub use alignment::{Alignment, BadAlignment};
 pub use answer::{Asked, RangeAnswer, ReadAtRequest};
 pub use buffer::ByteBuffer;
 pub use fault::{CloneError, Failed, FaultKind, OpenerError, SinkError};
-pub use matching::log_answers;
+pub use file_reader::{FileOpener, FileReader};
+pub use matching::{count_faulted, log_answers};
+pub use mem_opener::MemOpener;
+pub use mem_reader::MemReader;
+pub use mem_stream::{MemSink, MemSource};
+pub use mischief::{Mischief, MischiefKind};
 pub use opener::Opener;
 pub use reader::Reader;
 pub use segment::{CoalesceConfig, SegmentId, SegmentSpec};
+pub use std_stream::{StdSink, StdSource};
 pub use stream::{Sink, Source};
+pub use windowed::WithWindow;

@@ -1,6 +1,6 @@
 // The log of one call of a reader: each range that was asked with the mark that its answer gives it.
 ghost use Rattle.std.specs.Prelude.{◌≡◌, ◌<◌, map, find, position, length, IfOk, IfSome, OnSome, OnOk, IfNone};
-ghost use Rattle.vx_base.specs.Asking.{logged, without_first, same_range, ranges_of};
+ghost use Rattle.vx_base.specs.Asking.{logged, without_first, same_range, ranges_of, faulted};
 ghost use Rattle.vx_base.specs.Outlines.{outline_of, outlines, mark_of_outline};
 
 use crate::{Asked, FaultKind, RangeAnswer, ReadAtRequest};
@@ -62,8 +62,18 @@ fn mark(length: usize, outline: Option<Outline>) -> Option<FaultKind>
 {
     match outline {
         None => Some(FaultKind::MissingRange),
-        Some(Outline { request: _, count: None }) => Some(FaultKind::ReadFault),
-        Some(Outline { request: _, count: Some(count) }) => {
+        Some(
+            Outline {
+                request: _,
+                count: None,
+            },
+        ) => Some(FaultKind::ReadFault),
+        Some(
+            Outline {
+                request: _,
+                count: Some(count),
+            },
+        ) => {
             if count == length {
                 None
             } else {
@@ -93,4 +103,11 @@ pub fn log_answers(
         })?;
     }
     Ok(log)
+}
+
+/// How many ranges of a log got no bytes of their length.
+pub fn count_faulted(log: &[Asked]) -> usize
+    ensures { result ≡ faulted log.now }
+{
+    log.iter().filter(|asked| asked.mark.is_some()).count()
 }

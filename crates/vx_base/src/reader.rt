@@ -82,9 +82,12 @@ pub trait Reader: Sized + Drop {
 
     /// Another reader of the same bytes, with an empty log and no faults.
     fn try_clone(&mut self, alloc: Global) -> Result<Self, CloneError>
-        ensures cloned { IfOk result (λ r. (bytes r ≡ bytes self.old) × (most r ≡ most self.old)
-            × (window_of r ≡ window_of self.old) × (never_fails r ≡ never_fails self.old)
-            × (faults r ≡ 0) × (log r ≡ option_map (λ _. []) (log self.old))) }
+        ensures clone_bytes { IfOk result (λ r. bytes r ≡ bytes self.old) }
+        ensures clone_most { IfOk result (λ r. most r ≡ most self.old) }
+        ensures clone_window { IfOk result (λ r. window_of r ≡ window_of self.old) }
+        ensures clone_log { IfOk result (λ r. log r ≡ option_map (λ _. []) (log self.old)) }
+        ensures clone_faults { IfOk result (λ r. faults r ≡ 0) }
+        ensures clone_soundness { IfOk result (λ r. never_fails self.old ≡ true → never_fails r ≡ true) }
         ensures failed { result ≡ Err CloneError.Failed → Rises 1 (faults self.old) (faults self.new) }
         ensures never_falls { faults self.old ≤ faults self.new }
         ensures sound { never_fails self.old ≡ true → faults self.new ≡ faults self.old }

@@ -9,5 +9,5 @@ loop-range-init c = grind (arith, common_steps, logged_outlines-map c.args.asked
 
 pub returns-clause-ranges : goal.returns-clause-ranges
 returns-clause-ranges c =
-  let e : c.loop-range.log.items ≡ logged c.args.asked.now c.args.answers.now = grind (arith, common_steps) in
-  rw e (ranges_of-logged c.args.asked.now c.args.answers.now)
+    let e : c.loop-range.log.items ≡ logged c.args.asked.now c.args.answers.now = grind (arith, common_steps) in
+    rw e (ranges_of-logged c.args.asked.now c.args.answers.now)

@@ -1,0 +1,194 @@
+// Readers over real files. They tell no content.
+ghost use Rattle.std.specs.Prelude.{◌≡◌};
+
+use crate::{
+    ByteBuffer, CloneError, CoalesceConfig, Failed, Opener, OpenerError, RangeAnswer,
+    ReadAtRequest, Reader, count_faulted, log_answers,
+};
+use std::alloc::{AllocError, Global};
+use std::fs;
+use std::fs::{File, Files};
+use std::io::ErrorKind;
+use std::os::unix::fs::FileExt;
+
+// As many ranges as one call may ask.
+const MOST_RANGES: usize = 8;
+
+/// A reader over an open file, with no window and a concurrency of 8.
+#[derive(Drop)]
+pub struct FileReader {
+    file: File,
+    failures: u64,
+}
+
+impl FileReader {
+    /// A reader over an open file.
+    pub fn new(file: File) -> FileReader
+        ensures { ⟦<FileReader as Reader>⟧.faults result ≡ 0 }
+    {
+        FileReader { file, failures: 0 }
+    }
+
+    // Fills a buffer from a place, or fails where the file ends before.
+    fn fill(&self, into: &mut [u8], offset: u64) -> Result<(), Failed> {
+        let mut done = 0;
+        for _ in 0..u64::MAX {
+            if done >= into.len() {
+                return Ok(());
+            }
+            match self
+                .file
+                .read_at(&mut into[done..], offset.wrapping_add(done as u64))
+            {
+                Ok(0) => return Err(Failed),
+                Ok(count) => done += count,
+                Err(error) => {
+                    if error.kind() != ErrorKind::Interrupted {
+                        return Err(Failed);
+                    }
+                }
+            }
+        }
+        Err(Failed)
+    }
+
+    // The answer to one range.
+    fn answer(&self, alloc: Global, range: &ReadAtRequest) -> Result<RangeAnswer, AllocError> {
+        let mut bytes = vec![in alloc; 0u8; range.length]?;
+        let result = match self.fill(bytes.as_mut_slice(), range.offset) {
+            Ok(()) => Ok(ByteBuffer::from_vec(alloc, bytes, range.alignment)?),
+            Err(failed) => Err(failed),
+        };
+        Ok(RangeAnswer {
+            request: *range,
+            result,
+        })
+    }
+}
+
+impl Reader for FileReader {
+    ghost use Rattle.std.specs.Prelude.{None, false};
+
+    ghost bytes = { λ _. None };
+
+    ghost log = { λ _. None };
+
+    ghost faults = { λ r. r.failures };
+
+    ghost most = { λ _. 8 };
+
+    ghost window_of = { λ _. None };
+
+    ghost never_fails = { λ _. false };
+
+    fn size(&mut self) -> Result<u64, Failed> {
+        match self.file.metadata() {
+            Ok(metadata) => Ok(metadata.len()),
+            Err(_) => {
+                self.failures = self.failures.saturating_add(1);
+                Err(Failed)
+            }
+        }
+    }
+
+    fn read_ranges(
+        &mut self,
+        alloc: Global,
+        asked: &[ReadAtRequest],
+    ) -> Result<Vec<RangeAnswer>, AllocError> {
+        let mut answers = Vec::new(alloc);
+        for range in asked {
+            answers.push(self.answer(alloc, range)?)?;
+        }
+        let gained = log_answers(alloc, asked, answers.as_slice())?;
+        let faulted = count_faulted(gained.as_slice()) as u64;
+        self.failures = self.failures.saturating_add(faulted);
+        Ok(answers)
+    }
+
+    fn window(&self) -> Option<CoalesceConfig> {
+        None
+    }
+
+    fn concurrency(&self) -> usize {
+        MOST_RANGES
+    }
+
+    fn uri(&self) -> Option<&str> {
+        None
+    }
+
+    fn try_clone(&mut self, alloc: Global) -> Result<FileReader, CloneError> {
+        let _ = alloc;
+        match self.file.try_clone() {
+            Ok(file) => Ok(FileReader::new(file)),
+            Err(_) => {
+                self.failures = self.failures.saturating_add(1);
+                Err(CloneError::Failed)
+            }
+        }
+    }
+}
+
+/// What opens readers over real files by their paths.
+#[derive(Drop)]
+pub struct FileOpener<R: Files<File = File> + Drop> {
+    runtime: R,
+    failures: u64,
+    read_failures: u64,
+}
+
+impl<R: Files<File = File> + Drop> FileOpener<R> {
+    /// What opens files of a runtime, as that of `main`.
+    pub fn new(runtime: R) -> FileOpener<R>
+        ensures faults { ⟦<FileOpener<R> as Opener>⟧.faults result ≡ 0 }
+        ensures read_faults { ⟦<FileOpener<R> as Opener>⟧.read_faults result ≡ 0 }
+    {
+        FileOpener {
+            runtime,
+            failures: 0,
+            read_failures: 0,
+        }
+    }
+}
+
+impl<R: Files<File = File> + Drop> Opener for FileOpener<R> {
+    type Reader = FileReader;
+
+    ghost use Rattle.std.specs.Prelude.{None, false};
+
+    ghost file = { λ _ _. None };
+
+    ghost readers_never_fail = { λ _ _. false };
+
+    ghost asked = { λ _. None };
+
+    ghost returned = { λ _. None };
+
+    ghost faults = { λ o. o.failures };
+
+    ghost read_faults = { λ o. o.read_failures };
+
+    fn open_named(&mut self, alloc: Global, name: &str) -> Result<FileReader, OpenerError> {
+        let _ = alloc;
+        match fs::open(&self.runtime, name) {
+            Ok(file) => Ok(FileReader::new(file)),
+            Err(_) => {
+                self.failures = self.failures.saturating_add(1);
+                Err(OpenerError::Failed)
+            }
+        }
+    }
+
+    fn take_back(
+        &mut self,
+        alloc: Global,
+        name: &str,
+        reader: FileReader,
+    ) -> Result<(), AllocError> {
+        let _ = alloc;
+        let _ = name;
+        self.read_failures = self.read_failures.saturating_add(reader.failures);
+        Ok(())
+    }
+}

@@ -1,0 +1,44 @@
+-- A script that was answered over the tail of a file was served from the file.
+use Rattle.std.proofs.Common.{◌≡◌, ℕ, ◌+◌, ◌-◌, ◌≤◌, List, [], ◌∷◌, ◌++◌, length, drop, None, Ok, Err, refl, sym, ap, subst, ◌∙◌, arith, length-drop}
+use Rattle.vx_base.specs.Counts.{Rises}
+use Rattle.vx_footer.specs.declared.footer.Footer.{Footer}
+use Rattle.vx_footer.specs.Opening.{vx_grammar, tail_start, IsTail}
+use Rattle.vx_file.specs.declared.reply.Reply.{Reply}
+use Rattle.vx_file.specs.declared.served.Served.{Served}
+use Rattle.vx_file.specs.declared.serving.Tail.{Tail}
+use Rattle.vx_file.specs.declared.step.Step.{Step}
+use Rattle.vx_file.specs.Asked.{Entry, asked_by, Grew}
+use Rattle.vx_file.specs.Asking.{Known}
+use Rattle.vx_file.specs.Kept.{Kept}
+use Rattle.vx_file.specs.Serving.{ServedFrom, world_of, tail_ranges, opened}
+use Rattle.vx_file.specs.Stands.{Stands}
+use Rattle.vx_file.specs.Tails.{TailRead}
+use Rattle.vx_file.specs.Turns.{Answered, bad_replies}
+use Rattle.vx_file.proofs.Driving.{grew-add, rises-add}
+
+-- a new session stands for the empty history
+pub stands-new : (file : List ℕ) (footer : Footer) (t : Tail) (k : Kept) → IsTail file t.start t.bytes.bytes → k ≡ record { start = t.start; tail = t.bytes; requests = [] } → Stands (world_of file footer) [] k
+stands-new file footer t k h e = subst (Stands (world_of file footer) []) (sym e) (record {
+  start = h.begins;
+  tail = h.bytes ∙ ap (λ n. drop n file) h.begins;
+  count = refl;
+  each = λ n r got. absurd cc;
+  beyond = λ n past_end. record { live = refl; polled = refl; outcome = refl };
+})
+
+opening-is : (file : List ℕ) (t : Tail) (opening : List (ℕ × ℕ)) → IsTail file t.start t.bytes.bytes → opening ≡ (t.start, length t.bytes.bytes) ∷ [] → opening ≡ tail_ranges (length file)
+opening-is file t opening h e =
+    let size : length t.bytes.bytes ≡ length file - t.start = ap length h.bytes ∙ length-drop t.start file in
+    e ∙ ap (λ n. let ranges : List (ℕ × ℕ) = (t.start, n) ∷ [] in ranges) size ∙ ap (λ n. let ranges : List (ℕ × ℕ) = (n, length file - n) ∷ [] in ranges) h.begins
+
+pub served-is : (file : List ℕ) (script : List Step) (start mid now : Known) (t : Tail) (footer : Footer) (opening : List (ℕ × ℕ)) (replies : List Reply)
+    → TailRead file start mid t → vx_grammar file ≡ Ok footer → opening ≡ (t.start, length t.bytes.bytes) ∷ [] → Answered (world_of file footer) script mid now replies
+    → ServedFrom file script start now (record { footer = footer; opening = opening; replies = replies })
+served-is file script start mid now t footer opening replies read grammar e answered = record {
+  footer = grammar;
+  opening = opening-is file t opening read.is e;
+  fits = answered.fits;
+  asked = subst (λ ranges. Grew (opened ranges ++ asked_by replies) start.log now.log) (sym e)
+      (grew-add (opened ((t.start, length t.bytes.bytes) ∷ [])) (asked_by replies) start.log mid.log now.log read.asked answered.asks.grew);
+  bad = subst (λ n. Rises n start.faults now.faults) (let same : 0 + bad_replies replies ≡ bad_replies replies = omega arith in same) (rises-add 0 (bad_replies replies) start.faults mid.faults now.faults read.rises answered.asks.rises);
+}

@@ -1,0 +1,12 @@
+use Rattle.std.proofs.Common.{◌∙◌, ap, sym, List, ℕ, [], ◌∷◌}
+use Rattle.vx_file.specs.Serving.{world_of}
+use Rattle.vx_file.proofs.Serves.{served-is, stands-new}
+use Rattle.vx_file.proofs.serving.serve.Goals as goal
+
+pub returns-clause-cause : goal.returns-clause-cause
+returns-clause-cause g c = λ file told.
+    let read = c.in_ok-tail.ensures.cause file told in
+    let footer = c.in_ok-footer.footer in
+    served-is file c.args.script.now _ _ _ c.in_ok-tail.tail footer c.in_ok-opening.opening c.in_ok-replies.replies read (c.in_ok-footer.ensures.cause file read.is)
+        (c.in_ok-opening.ensures ∙ ap (λ n. let ranges : List (ℕ × ℕ) = (c.in_ok-tail.tail.start, n) ∷ [] in ranges) c.len.ensures.value)
+        (c.in_ok-replies.ensures.answered (world_of file footer) (c.in_ok-tail.ensures.same_bytes ∙ told) (sym c.as_slice.ensures) (stands-new file footer c.in_ok-tail.tail c.new-session.result read.is c.new-session.ensures))

@@ -1,0 +1,10 @@
+pub mod Asked
+pub mod Asking
+pub mod Fits
+pub mod History
+pub mod Kept
+pub mod Queue
+pub mod Serving
+pub mod Stands
+pub mod Tails
+pub mod Turns

@@ -1,0 +1,92 @@
+-- What serving a script from a file gives.
+use Rattle.std.specs.Prelude.{◌≡◌, ℕ, ◌+◌, ◌-◌, ◌<◌, Bool, true, false, List, [], ◌∷◌, ◌++◌, length, map, Option, Some, None, Result, Ok, Err, IsErr, ◌⊎◌, if◌then◌else◌}
+use Rattle.vx_base.specs.Asking.{Log}
+use Rattle.vx_base.specs.Counts.{Rises, last_count}
+use Rattle.vx_base.specs.declared.fault.FaultKind.TheVariants.{ReadFault}
+use Rattle.vx_footer.specs.declared.footer.Footer.{Footer}
+use Rattle.vx_footer.specs.declared.error.OpenError.{OpenError}
+use Rattle.vx_footer.specs.Opening.{vx_grammar, tail_start}
+use Rattle.vx_file.specs.declared.fault.Fault.{Fault}
+use Rattle.vx_file.specs.declared.fault.Place.TheVariants.{Size, Range}
+use Rattle.vx_file.specs.declared.step.Step.{Step}
+use Rattle.vx_file.specs.declared.step.Step.TheVariants.{Register}
+use Rattle.vx_file.specs.declared.served.Served.{Served}
+use Rattle.vx_file.specs.declared.served.ServeError.{ServeError}
+use Rattle.vx_file.specs.declared.served.ServeError.TheVariants as errors
+use Rattle.vx_file.specs.Asked.{Entry, Grew, asked_by}
+use Rattle.vx_file.specs.Asking.{Known}
+use Rattle.vx_file.specs.History.{is_among}
+use Rattle.vx_file.specs.Fits.{World, Fits}
+use Rattle.vx_file.specs.Turns.{bad_replies}
+
+-- the ranges that opening a file of this size asks: its last bytes
+abbrev pub tail_ranges : ℕ → List (ℕ × ℕ)
+tail_ranges size = (tail_start size, size - tail_start size) ∷ []
+
+-- opening ranges that got their bytes
+abbrev pub opened : List (ℕ × ℕ) → List Entry
+opened ranges = map (λ r. record { offset = r.0; length = r.1; mark = None }) ranges
+
+-- the ranges of opening, and then those of the drives
+abbrev pub asked : Served → List Entry
+asked s = opened s.opening ++ asked_by s.replies
+
+-- what the replies are about
+abbrev pub world_of : List ℕ → Footer → World
+world_of file footer = record { file = file; table = footer.segments; start = tail_start (length file) }
+
+-- A script was served from a file: the footer is that of the grammar, the replies fit the script, one
+-- for each step, and the reader was asked exactly for the ranges of opening and of the drives.
+pub record ServedFrom (file : List ℕ) (script : List Step) (before now : Known) (s : Served) : Type 0 where
+  pub footer : vx_grammar file ≡ Ok s.footer
+  pub opening : s.opening ≡ tail_ranges (length file)
+  pub fits : Fits (world_of file s.footer) [] script s.replies
+  pub asked : Grew (asked s) before.log now.log
+  pub bad : Rises (bad_replies s.replies) before.faults now.faults
+
+-- a file was refused: it is outside the grammar, and the reader was asked for the opening ranges alone
+pub record RefusedFrom (file : List ℕ) (before now : Known) : Type 0 where
+  pub outside : IsErr (vx_grammar file)
+  pub asked : Grew (opened (tail_ranges (length file))) before.log now.log
+
+-- a fault of the size call, which asks no range
+pub record SizeFault (before now : Known) (fault : Fault) : Type 0 where
+  pub is : fault ≡ record { kind = ReadFault; place = Size }
+  pub asked : Grew [] before.log now.log
+
+-- a fault of the opening range, with its mark
+pub record TailFault (file : List ℕ) (before now : Known) (fault : Fault) : Type 0 where
+  pub place : fault.place ≡ Range (tail_start (length file)) (length file - tail_start (length file))
+  pub asked : Grew (record { offset = tail_start (length file); length = length file - tail_start (length file); mark = Some fault.kind } ∷ []) before.log now.log
+
+-- the answer to a script has its cause, where the reader tells its bytes
+abbrev pub HasCause : List ℕ → List Step → Known → Known → Result Served ServeError → Type 0
+HasCause file script before now (Ok s) = ServedFrom file script before now s
+HasCause file script before now (Err errors.Refused) = RefusedFrom file before now
+HasCause file script before now (Err (errors.Fault fault)) = SizeFault before now fault ⊎ TailFault file before now fault
+HasCause file script before now (Err errors.OutOfMemory) = Unit {0}
+
+-- a fault is answered only where the count of faults rose
+abbrev pub FaultRose : Known → Known → Result Served ServeError → Type 0
+FaultRose before now (Ok s) = Unit {0}
+FaultRose before now (Err errors.Refused) = Unit {0}
+FaultRose before now (Err (errors.Fault fault)) = Rises 1 before.faults now.faults
+FaultRose before now (Err errors.OutOfMemory) = Unit {0}
+
+-- no count rose
+pub record StandsStill (before now : Known) : Type 0 where
+  pub same : now.faults ≡ before.faults
+  pub below : before.faults < last_count
+
+-- the script was served, or memory was wanting
+abbrev pub Succeeds : Result Served ServeError → Type 0
+Succeeds (Ok s) = Unit {0}
+Succeeds (Err errors.Refused) = ⊥
+Succeeds (Err (errors.Fault fault)) = ⊥
+Succeeds (Err errors.OutOfMemory) = Unit {0}
+
+-- whether a script registers a segment that it, or one of these, was registered before
+abbrev pub repeats : List ℕ → List Step → Bool
+repeats seen [] = false
+repeats seen (Register segment ∷ steps) = if is_among segment seen then true else repeats (segment ∷ seen) steps
+repeats seen (step ∷ steps) = repeats seen steps
