@@ -1,10 +1,11 @@
 -- Vectors of numbers, bytes and segment structs, and the elements of vectors of texts and tables.
-use Rattle.std.proofs.Common.{◌≡◌, ℕ, zero, suc, ◌+◌, ◌-◌, ◌*◌, ◌≤◌, ◌<◌, ◌^◌, true, List, [], ◌∷◌, ◌++◌, length, map, sum_by, Option, Some, refl, sym, ap, subst, ◌∙◌, arith, length-append}
+use Rattle.std.proofs.Common.{◌≡◌, ℕ, zero, suc, ◌+◌, ◌-◌, ◌*◌, ◌≤◌, ◌<◌, ◌^◌, true, List, [], ◌∷◌, ◌++◌, length, map, take, drop, sum_by, Option, Some, refl, sym, ap, subst, ◌∙◌, arith, length-append}
 use Rattle.std.specs.Prelude.{slice_get}
 use Rattle.std.specs.Int.{w32, to_le_bytes}
 use Rattle.std.specs.List.{flat_map}
 use Rattle.std.specs.Str.{is_utf8}
-use Rattle.std.proofs.lemmas.List.{map-append, length-map}
+use Rattle.std.proofs.lemmas.Grind.{flat_map-append}
+use Rattle.std.proofs.lemmas.List.{map-append, length-map, take_at, drop_at}
 use Rattle.std.proofs.lemmas.List.Sums.{sum_by-cons, sum_by-append}
 use Rattle.vx_base.specs.declared.segment.SegmentSpec.{SegmentSpec}
 use Rattle.vx_tables.specs.declared.elements.Elements.{Elements}
@@ -20,7 +21,7 @@ use Rattle.vx_tables.proofs.ReadTexts.{IsVectorField, vector_back, block_stands,
 
 -- ---- vectors without offsets
 
-length-flat : {A : Type 0} (f : A → List ℕ) (n : ℕ) → ((x : A) → length (f x) ≡ n) → (xs : List A) → length (flat_map f xs) ≡ length xs * n
+pub length-flat : {A : Type 0} (f : A → List ℕ) (n : ℕ) → ((x : A) → length (f x) ≡ n) → (xs : List A) → length (flat_map f xs) ≡ length xs * n
 length-flat f n each [] = omega arith
 length-flat f n each (x ∷ xs) = length-append (f x) (flat_map f xs) ∙ grind (arith, each, length-flat f n each xs)
 
@@ -42,7 +43,7 @@ numbers_back b t ps k ns h found =
     let size = length-flat (to_le_bytes w32) 4 (λ n. refl) ns in
     plain_back b t ps k (length ns) (flat_map (to_le_bytes w32) ns) (Numbers 4) h found (omega (arith, size)) (sym size)
 
-length-segment : (s : SegmentSpec) → length (segment s) ≡ 16
+pub length-segment : (s : SegmentSpec) → length (segment s) ≡ 16
 unfolding segment
 length-segment s = refl
 
@@ -148,3 +149,15 @@ pub tables_back : (b : List ℕ) (t : Table) (ps : List Piece) (k : ℕ) (ws : L
 tables_back b t ps k ws h found =
     let v = blocks_back b t ps k vtable_size block ws h found in
     record { vector = v.vector; found = v.found; as_many = v.as_many; each = λ i qs got order. table_element_back b v.vector v.start ws i qs v.first v.stands h.short got order }
+
+-- ---- elements of a vector without offsets
+
+-- the bytes of an element among those of all
+pub flat_at : {X : Type 0} (f : X → List ℕ) (n : ℕ) → ((x : X) → length (f x) ≡ n) → (xs : List X) (i : ℕ) (x : X) → slice_get xs i ≡ Some x
+    → take n (drop (i * n) (flat_map f xs)) ≡ f x
+flat_at f n each xs i x got =
+    let a = nth xs i x got in
+    let front = flat_map f a.front in
+    let apart : flat_map f xs ≡ front ++ (f x ++ flat_map f a.rest) = ap (flat_map f) a.parts ∙ flat_map-append f a.front (x ∷ a.rest) in
+    let place : length front ≡ i * n = length-flat f n each a.front ∙ ap (λ m. m * n) a.place in
+    ap (λ z. take n (drop (i * n) z)) apart ∙ ap (take n) (drop_at front (f x ++ flat_map f a.rest) (i * n) place) ∙ take_at (f x) (flat_map f a.rest) n (each x)

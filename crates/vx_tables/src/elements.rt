@@ -15,7 +15,7 @@ impl Elements {
     ghost use Rattle.vx_tables.specs.Field.{element_size};
 
     /// How many bytes an element takes.
-    pub fn size(self) -> usize
+    pub(crate) fn size(self) -> usize
         ensures { result ≡ element_size self }
     {
         match self {

@@ -1,7 +1,7 @@
 use super::*;
 use std::alloc::{AllocError, Global};
 use std::test::*;
-use vx_base::{Alignment, SegmentSpec};
+use vx_base::{Alignment, ByteBuffer, SegmentSpec};
 
 // The dtype table of a file of four numbers.
 const DTYPE: [u8; 21] = [
@@ -123,71 +123,125 @@ fn writes_a_postscript(rt: HostRuntime) -> Result<(), Fail> {
     Ok(())
 }
 
+// The numbers of the table in a slot: an offset, a length, an exponent, and one that is not there.
+fn segment_in(
+    bytes: &[u8],
+    slot: usize,
+) -> Result<Option<(Option<u64>, Option<u32>, Option<u8>, Option<u8>)>, BadTable> {
+    let mut visits = Visits::new();
+    let table = TableReader::root(bytes, &mut visits)?;
+    match table.field_table(slot, &mut visits)? {
+        Some(segment) => Ok(Some((
+            segment.field_u64(0)?,
+            segment.field_u32(1)?,
+            segment.field_u8(2)?,
+            segment.field_u8(3)?,
+        ))),
+        None => Ok(None),
+    }
+}
+
+// Whether an element of a vector of tables has this text in its slot 0.
+fn has_id(bytes: &[u8], slot: usize, at: usize, id: &str) -> Result<bool, BadTable> {
+    let mut visits = Visits::new();
+    let table = TableReader::root(bytes, &mut visits)?;
+    match table.field_vector(slot, Elements::Offsets, &mut visits)? {
+        Some(specs) if at < specs.len() => {
+            let spec = specs.table_at(at, &mut visits)?;
+            Ok(spec.field_text(0, &mut visits)? == Some(id))
+        }
+        _ => Ok(false),
+    }
+}
+
+// Whether an element of a vector of texts is this text.
+fn has_text(bytes: &[u8], slot: usize, at: usize, text: &str) -> Result<bool, BadTable> {
+    let mut visits = Visits::new();
+    let table = TableReader::root(bytes, &mut visits)?;
+    match table.field_vector(slot, Elements::Offsets, &mut visits)? {
+        Some(texts) if at < texts.len() => Ok(texts.text_at(at, &mut visits)? == text),
+        _ => Ok(false),
+    }
+}
+
+// Whether a text is in a slot.
+fn is_text(bytes: &[u8], slot: usize, text: &str) -> Result<bool, BadTable> {
+    let mut visits = Visits::new();
+    let table = TableReader::root(bytes, &mut visits)?;
+    Ok(table.field_text(slot, &mut visits)? == Some(text))
+}
+
+// Whether a vector has so many elements, of these bytes.
+fn is_vector(
+    bytes: &[u8],
+    slot: usize,
+    elements: Elements,
+    count: usize,
+    content: &[u8],
+) -> Result<bool, BadTable> {
+    let mut visits = Visits::new();
+    let table = TableReader::root(bytes, &mut visits)?;
+    match table.field_vector(slot, elements, &mut visits)? {
+        Some(vector) => Ok(
+            vector.len() == count
+                && vector.is_empty() == (count == 0)
+                && vector.as_bytes() == content,
+        ),
+        None => Ok(false),
+    }
+}
+
 #[test]
 fn reads_a_postscript(rt: HostRuntime) -> Result<(), Fail> {
+    let dtype = Some((Some(26), Some(21), Some(3), None));
+    let footer = Some((Some(91), Some(237), Some(3), None));
+    assert_eq!(rt; segment_in(&POSTSCRIPT, 0)?, dtype);
+    assert_eq!(rt; segment_in(&POSTSCRIPT, 3)?, footer);
+    assert_eq!(rt; segment_in(&POSTSCRIPT, 2)?, None);
+    assert_eq!(rt; segment_in(&POSTSCRIPT, 9)?, None);
+    Ok(())
+}
+
+#[test]
+fn reads_a_layout(rt: HostRuntime) -> Result<(), Fail> {
     let mut visits = Visits::new();
-    let table = TableReader::root(&POSTSCRIPT, &mut visits)?;
-    for (slot, offset, length) in [(0, 26, 21), (1, 47, 44), (3, 91, 237)] {
-        let segment = table.field_table(slot, &mut visits)?.ok_or("a segment")?;
-        assert_eq!(rt; segment.field_u64(0)?, Some(offset));
-        assert_eq!(rt; segment.field_u32(1)?, Some(length));
-        assert_eq!(rt; segment.field_u8(2)?, Some(3));
-        assert_eq!(rt; segment.field_u8(3)?, None);
-    }
-    assert!(rt; table.field_table(2, &mut visits)?.is_none());
-    assert!(rt; table.field_table(9, &mut visits)?.is_none());
+    let table = TableReader::root(&LAYOUT, &mut visits)?;
+    assert_eq!(rt; table.field_u16(0)?, Some(0));
+    assert_eq!(rt; table.field_u64(1)?, Some(4));
+    assert!(rt; is_vector(&LAYOUT, 4, Elements::Numbers(4), 1, &[0, 0, 0, 0])?);
     Ok(())
 }
 
 #[test]
 fn reads_a_footer(rt: HostRuntime) -> Result<(), Fail> {
-    let mut visits = Visits::new();
-    let table = TableReader::root(&FOOTER, &mut visits)?;
-    let arrays = table
-        .field_vector(0, Elements::Offsets, &mut visits)?
-        .ok_or("array specs")?;
-    assert_eq!(rt; arrays.len(), 4);
     for (at, id) in ARRAY_IDS.iter().enumerate() {
-        if at < arrays.len() {
-            let spec = arrays.table_at(at, &mut visits)?;
-            assert_eq!(rt; spec.field_text(0, &mut visits)?, Some(*id));
-        }
+        assert!(rt; has_id(&FOOTER, 0, at, id)?);
     }
-    let segments = table
-        .field_vector(2, Elements::Segments, &mut visits)?
-        .ok_or("segment specs")?;
-    assert_eq!(rt; segments.len(), 1);
-    assert_eq!(rt; segments.as_bytes(), &FOOTER[221..]);
+    assert!(rt; !has_id(&FOOTER, 0, 4, "vortex.bool")?);
+    assert!(rt; has_id(&FOOTER, 1, 0, "vortex.flat")?);
+    assert!(rt; is_vector(&FOOTER, 2, Elements::Segments, 1, &FOOTER[221..])?);
     Ok(())
+}
+
+fn vectors(alloc: Global) -> Result<ByteBuffer, TableError> {
+    let mut names = Vec::new(alloc);
+    names.push(String::from_str(alloc, "first")?)?;
+    names.push(String::from_str(alloc, "")?)?;
+    let mut table = TableWriter::new(alloc);
+    table.push_bytes(alloc, 2, &[7, 8])?;
+    table.push_texts(alloc, 5, &names)?;
+    table.push_text(alloc, 1023, "last")?;
+    table.finish(alloc)
 }
 
 #[test]
 fn reads_vectors_again(rt: HostRuntime) -> Result<(), Fail> {
-    let mut names = Vec::new(rt.alloc());
-    names.push(String::from_str(rt.alloc(), "first")?)?;
-    names.push(String::from_str(rt.alloc(), "")?)?;
-    let mut table = TableWriter::new(rt.alloc());
-    table.push_bytes(rt.alloc(), 2, &[7, 8])?;
-    table.push_texts(rt.alloc(), 5, &names)?;
-    table.push_text(rt.alloc(), 1023, "last")?;
-    let buffer = table.finish(rt.alloc())?;
-    let mut visits = Visits::new();
-    let table = TableReader::root(buffer.as_slice(), &mut visits)?;
-    let bytes = table
-        .field_vector(2, Elements::Numbers(1), &mut visits)?
-        .ok_or("bytes")?;
-    assert_eq!(rt; bytes.as_bytes(), [7, 8].as_slice());
-    assert!(rt; !bytes.is_empty());
-    let texts = table
-        .field_vector(5, Elements::Offsets, &mut visits)?
-        .ok_or("texts")?;
-    assert_eq!(rt; texts.len(), 2);
-    for (at, name) in names.iter().enumerate() {
-        if at < texts.len() {
-            assert_eq!(rt; texts.text_at(at, &mut visits)?, name.as_str());
-        }
-    }
-    assert_eq!(rt; table.field_text(1023, &mut visits)?, Some("last"));
+    let buffer = vectors(rt.alloc())?;
+    let bytes = buffer.as_slice();
+    assert!(rt; is_vector(bytes, 2, Elements::Numbers(1), 2, &[7, 8])?);
+    assert!(rt; has_text(bytes, 5, 0, "first")?);
+    assert!(rt; has_text(bytes, 5, 1, "")?);
+    assert!(rt; is_text(bytes, 1023, "last")?);
     Ok(())
 }
 

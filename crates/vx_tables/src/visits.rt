@@ -30,7 +30,7 @@ impl Visits {
     }
 
     /// Takes as many visits as the cost, where they are left.
-    pub fn charge(&mut self, cost: u64) -> Result<(), BadTable>
+    pub(crate) fn charge(&mut self, cost: u64) -> Result<(), BadTable>
         ensures enough { is_ok result ≡ nat_le cost self.old }
         ensures left { self.new ≡ (if is_ok result then self.old - cost else self.old) }
     {
