@@ -2,4 +2,5 @@ pub mod Lines
 pub mod Lists
 pub mod Noting
 pub mod Runs
+pub mod Statuses
 pub mod Streaming

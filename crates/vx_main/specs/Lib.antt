@@ -3,4 +3,5 @@ pub mod Reading
 pub mod Render
 pub mod Run
 pub mod Script
+pub mod Statuses
 pub mod Streams

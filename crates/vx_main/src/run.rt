@@ -4,6 +4,7 @@ ghost use Rattle.vx_base.specs.Counts.{Rises};
 ghost use Rattle.vx_file.specs.Serving.{repeats};
 ghost use Rattle.vx_main.specs.Command.{command_of, name_of};
 ghost use Rattle.vx_main.specs.Run.{ScriptCause, FileCause, CommandCause, Concludes, Fails, Runs, help_text, version_text, IsText};
+ghost use Rattle.vx_main.specs.Statuses.{Statuses};
 ghost use Rattle.vx_main.specs.Reading.{ReaderCause, ReaderFault, script_failure, StepsCause};
 ghost use Rattle.vx_main.specs.declared.command.Command.TheVariants.{Serve};
 
@@ -169,6 +170,10 @@ pub fn run<I: Source, F: Opener, O: Sink, E: Sink>(
 ) -> u8
     // There is an answer that has its cause, and the status and what was written are those of it.
     ensures cause { Runs (command_of (map string_bytes words.now)) (name_of (map string_bytes words.now)) (record { rest = I.rest input.old; faults = I.faults input.old }) (record { rest = I.rest input.new; faults = I.faults input.new })
+        (record { file = F.file files.old (name_of (map string_bytes words.now)); asked = F.asked files.old; returned = F.returned files.old; faults = F.faults files.old; read_faults = F.read_faults files.old }) (record { file = F.file files.new (name_of (map string_bytes words.now)); asked = F.asked files.new; returned = F.returned files.new; faults = F.faults files.new; read_faults = F.read_faults files.new })
+        (record { gained = O.gained out.old; faults = O.faults out.old }) (record { gained = O.gained out.new; faults = O.faults out.new }) (record { gained = E.gained err.old; faults = E.faults err.old }) (record { gained = E.gained err.new; faults = E.faults err.new }) result }
+    // What each exit status says.
+    ensures statuses { Statuses (command_of (map string_bytes words.now)) (name_of (map string_bytes words.now)) (record { rest = I.rest input.old; faults = I.faults input.old }) (record { rest = I.rest input.new; faults = I.faults input.new })
         (record { file = F.file files.old (name_of (map string_bytes words.now)); asked = F.asked files.old; returned = F.returned files.old; faults = F.faults files.old; read_faults = F.read_faults files.old }) (record { file = F.file files.new (name_of (map string_bytes words.now)); asked = F.asked files.new; returned = F.returned files.new; faults = F.faults files.new; read_faults = F.read_faults files.new })
         (record { gained = O.gained out.old; faults = O.faults out.old }) (record { gained = O.gained out.new; faults = O.faults out.new }) (record { gained = E.gained err.old; faults = E.faults err.old }) (record { gained = E.gained err.new; faults = E.faults err.new }) result }
 {

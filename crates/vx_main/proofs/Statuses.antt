@@ -1,0 +1,366 @@
+-- What each exit status of a run says, from the cause of its answer.
+use Rattle.std.proofs.Common.{◌≡◌, ℕ, ◌≤◌, ◌<◌, List, [], true, false, Option, Some, None, Result, Ok, Err, subst, sym, ap, ◌∙◌, arith, length, if◌then◌else◌, ◌⊎◌, inl, inr, refl, le-ltb, lt-ltb}
+use Rattle.std.specs.Prelude.{Vec, IsErr}
+use Rattle.std.specs.Global.{Global}
+use Rattle.vx_base.specs.Counts.{Rises}
+use Rattle.vx_footer.specs.declared.footer.Footer.{Footer}
+use Rattle.vx_footer.specs.Opening.{vx_grammar}
+use Rattle.vx_file.specs.declared.step.Step.{Step}
+use Rattle.vx_file.specs.Serving.{repeats}
+use Rattle.vx_main.specs.declared.command.Command.{Command}
+use Rattle.vx_main.specs.declared.command.Command.TheVariants.{Help, Version, Serve}
+use Rattle.vx_main.specs.declared.failure.Failure.{Failure}
+use Rattle.vx_main.specs.declared.failure.Failure.TheVariants as failures
+use Rattle.vx_main.specs.Run.{status_of, FilesKnown, SinkKnown, AskedOnce, ServesFile, ScriptCause, FileCause, LoadedCause, CommandCause, IsText, help_text, version_text, Concludes, Fails, Prints, CutShort, Unfinished}
+use Rattle.vx_main.specs.Script.{script_of}
+use Rattle.vx_main.specs.Statuses.{Told, NoScript, Steady, AllWell, file_status, script_status, wanted_status, Statuses}
+use Rattle.vx_main.specs.Streams.{SourceKnown, ReadToEnd, TooLong, most_input}
+
+-- ---- the cause of a failure
+
+-- the input, read to its end, is a script
+pub record Loads (text : List ℕ) (source_now : SourceKnown) : Type 0 where
+  pub steps : List Step
+  pub script : script_of text ≡ Ok steps
+  pub distinct : repeats [] steps ≡ false
+  pub read : ReadToEnd text source_now
+
+abbrev pub Loaded : SourceKnown → SourceKnown → Type 0
+Loaded source source_now = (text : List ℕ) → source.rest ≡ Some text → Loads text source_now
+
+abbrev pub Refuses : FilesKnown → Type 0
+Refuses files = (file : List ℕ) → files.file ≡ Some file → IsErr (vx_grammar file)
+
+abbrev pub FailureCause : Option Command → SourceKnown → SourceKnown → FilesKnown → FilesKnown → Failure → Type 0
+FailureCause command source source_now files files_now failures.Usage = command ≡ None
+FailureCause command source source_now files files_now (failures.Line line) = ScriptCause source source_now (Err (failures.Line line))
+FailureCause command source source_now files files_now failures.Script = ScriptCause source source_now (Err failures.Script)
+FailureCause command source source_now files files_now failures.Refused = Loaded source source_now × Refuses files
+FailureCause command source source_now files files_now (failures.Read fault) = Rises 1 files.read_faults files_now.read_faults
+FailureCause command source source_now files files_now failures.Input = Rises 1 source.faults source_now.faults
+FailureCause command source source_now files files_now failures.Output = ⊥
+FailureCause command source source_now files files_now failures.Open = Rises 1 files.faults files_now.faults
+FailureCause command source source_now files files_now failures.InputTooLong = ScriptCause source source_now (Err failures.InputTooLong)
+FailureCause command source source_now files files_now failures.OutOfMemory = Unit {0}
+
+-- a failure of the script
+script-failed : (command : Option Command) (source source_now : SourceKnown) (files files_now : FilesKnown) (failure : Failure) → ScriptCause source source_now (Err failure) → FailureCause command source source_now files files_now failure
+script-failed command source source_now files files_now failures.Usage h = absurd h
+script-failed command source source_now files files_now (failures.Line line) h = h
+script-failed command source source_now files files_now failures.Script h = h
+script-failed command source source_now files files_now failures.Refused h = absurd h
+script-failed command source source_now files files_now (failures.Read fault) h = absurd h
+script-failed command source source_now files files_now failures.Input h = h
+script-failed command source source_now files files_now failures.Output h = absurd h
+script-failed command source source_now files files_now failures.Open h = absurd h
+script-failed command source source_now files files_now failures.InputTooLong h = h
+script-failed command source source_now files files_now failures.OutOfMemory h = tt
+
+-- a failure of the file, once the script was there
+file-failed : (command : Option Command) (source source_now : SourceKnown) (files files_now : FilesKnown) (name : List ℕ) (steps : Vec Step Global) → ScriptCause source source_now (Ok steps) → repeats [] steps.items ≡ false → (failure : Failure) → FileCause name steps.items files files_now (Err failure) → FailureCause command source source_now files files_now failure
+file-failed command source source_now files files_now name steps read distinct failures.Usage h = absurd h
+file-failed command source source_now files files_now name steps read distinct (failures.Line line) h = absurd h
+file-failed command source source_now files files_now name steps read distinct failures.Script h = absurd h
+file-failed command source source_now files files_now name steps read distinct failures.Refused h = (λ text told. let r = read text told in record { steps = steps.items; script = r.1; distinct = distinct; read = r.0 }, h.1)
+file-failed command source source_now files files_now name steps read distinct (failures.Read fault) h = h.1
+file-failed command source source_now files files_now name steps read distinct failures.Input h = absurd h
+file-failed command source source_now files files_now name steps read distinct failures.Output h = absurd h
+file-failed command source source_now files files_now name steps read distinct failures.Open h = h.1
+file-failed command source source_now files files_now name steps read distinct failures.InputTooLong h = absurd h
+file-failed command source source_now files files_now name steps read distinct failures.OutOfMemory h = tt
+
+loaded-failed : (command : Option Command) (source source_now : SourceKnown) (files files_now : FilesKnown) (name : List ℕ) (script : Result (Vec Step Global) Failure) → ScriptCause source source_now script → (failure : Failure) → LoadedCause name files files_now script (Err failure) → FailureCause command source source_now files files_now failure
+loaded-failed command source source_now files files_now name (Ok steps) read failure h = file-failed command source source_now files files_now name steps read h.0 failure h.1
+loaded-failed command source source_now files files_now name (Err other) read failure h = let same : failure ≡ other = cc in subst (λ f. FailureCause command source source_now files files_now f) (sym same) (script-failed command source source_now files files_now other read)
+
+text-failed : (command : Option Command) (source source_now : SourceKnown) (files files_now : FilesKnown) (text : List ℕ) (failure : Failure) → IsText text (Err failure) → FailureCause command source source_now files files_now failure
+text-failed command source source_now files files_now text failures.Usage h = absurd h
+text-failed command source source_now files files_now text (failures.Line line) h = absurd h
+text-failed command source source_now files files_now text failures.Script h = absurd h
+text-failed command source source_now files files_now text failures.Refused h = absurd h
+text-failed command source source_now files files_now text (failures.Read fault) h = absurd h
+text-failed command source source_now files files_now text failures.Input h = absurd h
+text-failed command source source_now files files_now text failures.Output h = absurd h
+text-failed command source source_now files files_now text failures.Open h = absurd h
+text-failed command source source_now files files_now text failures.InputTooLong h = absurd h
+text-failed command source source_now files files_now text failures.OutOfMemory h = tt
+
+command-failed : (command : Option Command) (source source_now : SourceKnown) (files files_now : FilesKnown) (name : List ℕ) (failure : Failure) → CommandCause command name source source_now files files_now (Err failure) → FailureCause command source source_now files files_now failure
+command-failed None source source_now files files_now name failure h = let same : failure ≡ failures.Usage = cc in subst (λ f. FailureCause None source source_now files files_now f) (sym same) refl
+command-failed (Some Help) source source_now files files_now name failure h = text-failed (Some Help) source source_now files files_now help_text failure h.0
+command-failed (Some Version) source source_now files files_now name failure h = text-failed (Some Version) source source_now files files_now version_text failure h.0
+command-failed (Some Serve) source source_now files files_now name failure h = loaded-failed (Some Serve) source source_now files files_now name h.script h.read failure h.answered
+
+-- ---- each status has its cause
+
+fails-usage : (command : Option Command) (source source_now : SourceKnown) (files files_now : FilesKnown) (failure : Failure) → FailureCause command source source_now files files_now failure → status_of failure ≡ 2 → command ≡ None
+fails-usage command source source_now files files_now failures.Usage h is = h
+fails-usage command source source_now files files_now (failures.Line line) h is = absurd (omega (arith, is))
+fails-usage command source source_now files files_now failures.Script h is = absurd (omega (arith, is))
+fails-usage command source source_now files files_now failures.Refused h is = absurd (omega (arith, is))
+fails-usage command source source_now files files_now (failures.Read fault) h is = absurd (omega (arith, is))
+fails-usage command source source_now files files_now failures.Input h is = absurd (omega (arith, is))
+fails-usage command source source_now files files_now failures.Output h is = absurd (omega (arith, is))
+fails-usage command source source_now files files_now failures.Open h is = absurd (omega (arith, is))
+fails-usage command source source_now files files_now failures.InputTooLong h is = absurd (omega (arith, is))
+fails-usage command source source_now files files_now failures.OutOfMemory h is = absurd (omega (arith, is))
+
+fails-refused : (command : Option Command) (source source_now : SourceKnown) (files files_now : FilesKnown) (failure : Failure) → FailureCause command source source_now files files_now failure → status_of failure ≡ 4 → Refuses files
+fails-refused command source source_now files files_now failures.Usage h is = absurd (omega (arith, is))
+fails-refused command source source_now files files_now (failures.Line line) h is = absurd (omega (arith, is))
+fails-refused command source source_now files files_now failures.Script h is = absurd (omega (arith, is))
+fails-refused command source source_now files files_now failures.Refused h is = h.1
+fails-refused command source source_now files files_now (failures.Read fault) h is = absurd (omega (arith, is))
+fails-refused command source source_now files files_now failures.Input h is = absurd (omega (arith, is))
+fails-refused command source source_now files files_now failures.Output h is = absurd (omega (arith, is))
+fails-refused command source source_now files files_now failures.Open h is = absurd (omega (arith, is))
+fails-refused command source source_now files files_now failures.InputTooLong h is = absurd (omega (arith, is))
+fails-refused command source source_now files files_now failures.OutOfMemory h is = absurd (omega (arith, is))
+
+fails-read : (command : Option Command) (source source_now : SourceKnown) (files files_now : FilesKnown) (failure : Failure) → FailureCause command source source_now files files_now failure → status_of failure ≡ 5 → Rises 1 files.read_faults files_now.read_faults
+fails-read command source source_now files files_now failures.Usage h is = absurd (omega (arith, is))
+fails-read command source source_now files files_now (failures.Line line) h is = absurd (omega (arith, is))
+fails-read command source source_now files files_now failures.Script h is = absurd (omega (arith, is))
+fails-read command source source_now files files_now failures.Refused h is = absurd (omega (arith, is))
+fails-read command source source_now files files_now (failures.Read fault) h is = h
+fails-read command source source_now files files_now failures.Input h is = absurd (omega (arith, is))
+fails-read command source source_now files files_now failures.Output h is = absurd (omega (arith, is))
+fails-read command source source_now files files_now failures.Open h is = absurd (omega (arith, is))
+fails-read command source source_now files files_now failures.InputTooLong h is = absurd (omega (arith, is))
+fails-read command source source_now files files_now failures.OutOfMemory h is = absurd (omega (arith, is))
+
+fails-input : (command : Option Command) (source source_now : SourceKnown) (files files_now : FilesKnown) (failure : Failure) → FailureCause command source source_now files files_now failure → status_of failure ≡ 6 → Rises 1 source.faults source_now.faults
+fails-input command source source_now files files_now failures.Usage h is = absurd (omega (arith, is))
+fails-input command source source_now files files_now (failures.Line line) h is = absurd (omega (arith, is))
+fails-input command source source_now files files_now failures.Script h is = absurd (omega (arith, is))
+fails-input command source source_now files files_now failures.Refused h is = absurd (omega (arith, is))
+fails-input command source source_now files files_now (failures.Read fault) h is = absurd (omega (arith, is))
+fails-input command source source_now files files_now failures.Input h is = h
+fails-input command source source_now files files_now failures.Output h is = absurd (omega (arith, is))
+fails-input command source source_now files files_now failures.Open h is = absurd (omega (arith, is))
+fails-input command source source_now files files_now failures.InputTooLong h is = absurd (omega (arith, is))
+fails-input command source source_now files files_now failures.OutOfMemory h is = absurd (omega (arith, is))
+
+fails-output : (command : Option Command) (source source_now : SourceKnown) (files files_now : FilesKnown) (failure : Failure) → FailureCause command source source_now files files_now failure → status_of failure ≡ 7 → ⊥
+fails-output command source source_now files files_now failures.Usage h is = absurd (omega (arith, is))
+fails-output command source source_now files files_now (failures.Line line) h is = absurd (omega (arith, is))
+fails-output command source source_now files files_now failures.Script h is = absurd (omega (arith, is))
+fails-output command source source_now files files_now failures.Refused h is = absurd (omega (arith, is))
+fails-output command source source_now files files_now (failures.Read fault) h is = absurd (omega (arith, is))
+fails-output command source source_now files files_now failures.Input h is = absurd (omega (arith, is))
+fails-output command source source_now files files_now failures.Output h is = h
+fails-output command source source_now files files_now failures.Open h is = absurd (omega (arith, is))
+fails-output command source source_now files files_now failures.InputTooLong h is = absurd (omega (arith, is))
+fails-output command source source_now files files_now failures.OutOfMemory h is = absurd (omega (arith, is))
+
+fails-open : (command : Option Command) (source source_now : SourceKnown) (files files_now : FilesKnown) (failure : Failure) → FailureCause command source source_now files files_now failure → status_of failure ≡ 8 → Rises 1 files.faults files_now.faults
+fails-open command source source_now files files_now failures.Usage h is = absurd (omega (arith, is))
+fails-open command source source_now files files_now (failures.Line line) h is = absurd (omega (arith, is))
+fails-open command source source_now files files_now failures.Script h is = absurd (omega (arith, is))
+fails-open command source source_now files files_now failures.Refused h is = absurd (omega (arith, is))
+fails-open command source source_now files files_now (failures.Read fault) h is = absurd (omega (arith, is))
+fails-open command source source_now files files_now failures.Input h is = absurd (omega (arith, is))
+fails-open command source source_now files files_now failures.Output h is = absurd (omega (arith, is))
+fails-open command source source_now files files_now failures.Open h is = h
+fails-open command source source_now files files_now failures.InputTooLong h is = absurd (omega (arith, is))
+fails-open command source source_now files files_now failures.OutOfMemory h is = absurd (omega (arith, is))
+
+fails-long : (command : Option Command) (source source_now : SourceKnown) (files files_now : FilesKnown) (failure : Failure) → FailureCause command source source_now files files_now failure → status_of failure ≡ 9 → (text : List ℕ) → source.rest ≡ Some text → TooLong text source_now
+fails-long command source source_now files files_now failures.Usage h is = absurd (omega (arith, is))
+fails-long command source source_now files files_now (failures.Line line) h is = absurd (omega (arith, is))
+fails-long command source source_now files files_now failures.Script h is = absurd (omega (arith, is))
+fails-long command source source_now files files_now failures.Refused h is = absurd (omega (arith, is))
+fails-long command source source_now files files_now (failures.Read fault) h is = absurd (omega (arith, is))
+fails-long command source source_now files files_now failures.Input h is = absurd (omega (arith, is))
+fails-long command source source_now files files_now failures.Output h is = absurd (omega (arith, is))
+fails-long command source source_now files files_now failures.Open h is = absurd (omega (arith, is))
+fails-long command source source_now files files_now failures.InputTooLong h is = h
+fails-long command source source_now files files_now failures.OutOfMemory h is = absurd (omega (arith, is))
+
+fails-script : (command : Option Command) (source source_now : SourceKnown) (files files_now : FilesKnown) (name : List ℕ) (err err_now : SinkKnown) (failure : Failure) → FailureCause command source source_now files files_now failure → Told failure name err err_now → status_of failure ≡ 3 → (text : List ℕ) → source.rest ≡ Some text → NoScript text name source_now err err_now
+fails-script command source source_now files files_now name err err_now failures.Usage h printed is = absurd (omega (arith, is))
+fails-script command source source_now files files_now name err err_now (failures.Line line) h printed is = λ text told. let r = h text told in (r.0, inl (record { line = line; first = r.1; told = printed }))
+fails-script command source source_now files files_now name err err_now failures.Script h printed is = λ text told. let r = h text told in (r.0, inr (record { steps = r.1.0; script = r.1.1; twice = r.1.2; told = printed }))
+fails-script command source source_now files files_now name err err_now failures.Refused h printed is = absurd (omega (arith, is))
+fails-script command source source_now files files_now name err err_now (failures.Read fault) h printed is = absurd (omega (arith, is))
+fails-script command source source_now files files_now name err err_now failures.Input h printed is = absurd (omega (arith, is))
+fails-script command source source_now files files_now name err err_now failures.Output h printed is = absurd (omega (arith, is))
+fails-script command source source_now files files_now name err err_now failures.Open h printed is = absurd (omega (arith, is))
+fails-script command source source_now files files_now name err err_now failures.InputTooLong h printed is = absurd (omega (arith, is))
+fails-script command source source_now files files_now name err err_now failures.OutOfMemory h printed is = absurd (omega (arith, is))
+
+-- ---- the status that an input and a file deserve
+
+not-rising : (before now : ℕ) → Steady before now → Rises 1 before now → ⊥
+not-rising before now steady h = omega (arith, steady.same, steady.below, h.later, h.risen)
+
+wanted-short : {E : Type 0} (text : List ℕ) (grammar : Result Footer E) → length text ≤ most_input → wanted_status text grammar ≡ script_status (script_of text) grammar
+wanted-short text grammar short = ap (λ long. if long then 9 else script_status (script_of text) grammar) (le-ltb most_input (length text) short)
+
+wanted-long : {E : Type 0} (text : List ℕ) (grammar : Result Footer E) → most_input < length text → wanted_status text grammar ≡ 9
+wanted-long text grammar long = ap (λ test. if test then 9 else script_status (script_of text) grammar) (lt-ltb most_input (length text) long)
+
+wanted-line : {E : Type 0} (text : List ℕ) (grammar : Result Footer E) (line : ℕ) → length text ≤ most_input → script_of text ≡ Err line → wanted_status text grammar ≡ 3
+wanted-line text grammar line short script = wanted-short text grammar short ∙ ap (λ s. script_status s grammar) script
+
+wanted-steps : {E : Type 0} (text : List ℕ) (grammar : Result Footer E) (steps : List Step) → length text ≤ most_input → script_of text ≡ Ok steps → wanted_status text grammar ≡ (if repeats [] steps then 3 else file_status grammar)
+wanted-steps text grammar steps short script = wanted-short text grammar short ∙ ap (λ s. script_status s grammar) script
+
+wanted-twice : {E : Type 0} (text : List ℕ) (grammar : Result Footer E) (steps : List Step) → length text ≤ most_input → script_of text ≡ Ok steps → repeats [] steps ≡ true → wanted_status text grammar ≡ 3
+wanted-twice text grammar steps short script twice = wanted-steps text grammar steps short script ∙ ap (λ test. if test then 3 else file_status grammar) twice
+
+wanted-file : {E : Type 0} (text : List ℕ) (grammar : Result Footer E) (steps : List Step) → length text ≤ most_input → script_of text ≡ Ok steps → repeats [] steps ≡ false → wanted_status text grammar ≡ file_status grammar
+wanted-file text grammar steps short script distinct = wanted-steps text grammar steps short script ∙ ap (λ test. if test then 3 else file_status grammar) distinct
+
+status-outside : {E : Type 0} (grammar : Result Footer E) → IsErr grammar → file_status grammar ≡ 4
+status-outside (Ok footer) h = absurd cc
+status-outside (Err bad) h = refl
+
+failure-deserved : (command : Option Command) (source source_now : SourceKnown) (files files_now : FilesKnown) (out out_now : SinkKnown) (text file : List ℕ) → command ≡ Some Serve → AllWell text file source source_now files files_now out out_now → (failure : Failure) → FailureCause command source source_now files files_now failure → (status_of failure ≡ wanted_status text (vx_grammar file)) ⊎ (status_of failure ≡ 70)
+failure-deserved command source source_now files files_now out out_now text file serve well failures.Usage h = absurd (let none : command ≡ None = h in let clash : None ≡ Some Serve = sym none ∙ serve in cc)
+failure-deserved command source source_now files files_now out out_now text file serve well (failures.Line line) h = let r = h text well.input in inl (sym (wanted-line text (vx_grammar file) line r.0.short r.1))
+failure-deserved command source source_now files files_now out out_now text file serve well failures.Script h = let r = h text well.input in inl (sym (wanted-twice text (vx_grammar file) r.1.0 r.0.short r.1.1 r.1.2))
+failure-deserved command source source_now files files_now out out_now text file serve well failures.Refused h = let r = h.0 text well.input in inl (sym (wanted-file text (vx_grammar file) r.steps r.read.short r.script r.distinct ∙ status-outside (vx_grammar file) (h.1 file well.bytes)))
+failure-deserved command source source_now files files_now out out_now text file serve well (failures.Read fault) h = absurd (not-rising files.read_faults files_now.read_faults well.reads_steady h)
+failure-deserved command source source_now files files_now out out_now text file serve well failures.Input h = absurd (not-rising source.faults source_now.faults well.input_steady h)
+failure-deserved command source source_now files files_now out out_now text file serve well failures.Output h = absurd h
+failure-deserved command source source_now files files_now out out_now text file serve well failures.Open h = absurd (not-rising files.faults files_now.faults well.opens_steady h)
+failure-deserved command source source_now files files_now out out_now text file serve well failures.InputTooLong h = let r = h text well.input in inl (sym (wanted-long text (vx_grammar file) r.long))
+failure-deserved command source source_now files files_now out out_now text file serve well failures.OutOfMemory h = inr refl
+
+-- ---- the cause of a text
+
+-- a script was served from the file, and this is the text of it
+pub record Gives (name text file : List ℕ) (source_now : SourceKnown) (files files_now : FilesKnown) (printed : List ℕ) : Type 0 where
+  pub loads : Loads text source_now
+  pub asked : AskedOnce name files files_now
+  pub serves : ServesFile file name loads.steps files files_now printed
+
+pub record TextCause (command : Option Command) (name : List ℕ) (source source_now : SourceKnown) (files files_now : FilesKnown) (printed : List ℕ) : Type 0 where
+  pub known : command ≡ None → ⊥
+  pub gives : command ≡ Some Serve → (text file : List ℕ) → source.rest ≡ Some text → files.file ≡ Some file → Gives name text file source_now files files_now printed
+
+loaded-gives : (name : List ℕ) (source source_now : SourceKnown) (files files_now : FilesKnown) (script : Result (Vec Step Global) Failure) (printed : Vec ℕ Global) → ScriptCause source source_now script → LoadedCause name files files_now script (Ok printed)
+    → (text file : List ℕ) → source.rest ≡ Some text → files.file ≡ Some file → Gives name text file source_now files files_now printed.items
+loaded-gives name source source_now files files_now (Ok steps) printed read h text file told bytes = let r = read text told in record {
+  loads = record { steps = steps.items; script = r.1; distinct = h.0; read = r.0 };
+  asked = h.1.0;
+  serves = h.1.1 file bytes;
+}
+loaded-gives name source source_now files files_now (Err failure) printed read h text file told bytes = absurd (let clash = h.0 in cc)
+
+command-gives : (command : Option Command) (name : List ℕ) (source source_now : SourceKnown) (files files_now : FilesKnown) (printed : Vec ℕ Global) → CommandCause command name source source_now files files_now (Ok printed) → TextCause command name source source_now files files_now printed.items
+command-gives None name source source_now files files_now printed h = absurd (let clash = h.0 in cc)
+command-gives (Some Help) name source source_now files files_now printed h = record { known = λ none. absurd cc; gives = λ serve. absurd cc }
+command-gives (Some Version) name source source_now files files_now printed h = record { known = λ none. absurd cc; gives = λ serve. absurd cc }
+command-gives (Some Serve) name source source_now files files_now printed h = record { known = λ none. absurd cc; gives = λ serve text file told bytes. loaded-gives name source source_now files files_now h.script printed h.read h.answered text file told bytes }
+
+-- ---- the statuses
+
+usage-answer : (command : Option Command) (name : List ℕ) (source source_now : SourceKnown) (files files_now : FilesKnown) (failure : Failure) → CommandCause command name source source_now files files_now (Err failure) → command ≡ None → failure ≡ failures.Usage
+usage-answer None name source source_now files files_now failure h none = let same = h.0 in cc
+usage-answer (Some command) name source source_now files files_now failure h none = absurd cc
+
+no-zero : (failure : Failure) → status_of failure ≡ 0 → ⊥
+no-zero failures.Usage is = omega (arith, is)
+no-zero (failures.Line line) is = omega (arith, is)
+no-zero failures.Script is = omega (arith, is)
+no-zero failures.Refused is = omega (arith, is)
+no-zero (failures.Read fault) is = omega (arith, is)
+no-zero failures.Input is = omega (arith, is)
+no-zero failures.Output is = omega (arith, is)
+no-zero failures.Open is = omega (arith, is)
+no-zero failures.InputTooLong is = omega (arith, is)
+no-zero failures.OutOfMemory is = omega (arith, is)
+
+deserved : (status code wanted : ℕ) → code ≡ status → (status ≡ wanted) ⊎ (status ≡ 70) → (code ≡ wanted) ⊎ (code ≡ 70)
+deserved status code wanted is (inl well) = inl (is ∙ well)
+deserved status code wanted is (inr memory) = inr (is ∙ memory)
+
+of-failure : (command : Option Command) (name : List ℕ) (source source_now : SourceKnown) (files files_now : FilesKnown) (out out_now err err_now : SinkKnown) (code : ℕ) (failure : Failure) → CommandCause command name source source_now files files_now (Err failure) → out_now.gained ≡ out.gained → Fails failure name err err_now code
+    → Statuses command name source source_now files files_now out out_now err err_now code
+of-failure command name source source_now files files_now out out_now err err_now code failure cause silent h =
+    let why = command-failed command source source_now files files_now name failure cause in
+    record {
+      usage = λ none. h.status ∙ ap status_of (usage-answer command name source source_now files files_now failure cause none);
+      usage_only = λ is. fails-usage command source source_now files files_now failure why (sym h.status ∙ is);
+      script_only = λ is. fails-script command source source_now files files_now name err err_now failure why h.told (sym h.status ∙ is);
+      refused_only = λ is. fails-refused command source source_now files files_now failure why (sym h.status ∙ is);
+      read_only = λ is. fails-read command source source_now files files_now failure why (sym h.status ∙ is);
+      input_only = λ is. fails-input command source source_now files files_now failure why (sym h.status ∙ is);
+      output_only = λ is. absurd (fails-output command source source_now files files_now failure why (sym h.status ∙ is));
+      open_only = λ is. fails-open command source source_now files files_now failure why (sym h.status ∙ is);
+      too_long_only = λ is. fails-long command source source_now files files_now failure why (sym h.status ∙ is);
+      silent = inl silent;
+      told = inr (record { failure = failure; status = h.status; told = h.told });
+      served = λ serve is. absurd (no-zero failure (sym h.status ∙ is));
+      complete = λ serve text file well. deserved (status_of failure) code (wanted_status text (vx_grammar file)) h.status (failure-deserved command source source_now files files_now out out_now text file serve well failure why);
+    }
+
+text-deserved : (name text file : List ℕ) (source source_now : SourceKnown) (files files_now : FilesKnown) (printed : List ℕ) → Gives name text file source_now files files_now printed → wanted_status text (vx_grammar file) ≡ 0
+text-deserved name text file source source_now files files_now printed h = wanted-file text (vx_grammar file) h.loads.steps h.loads.read.short h.loads.script h.loads.distinct ∙ ap file_status h.serves.footer
+
+of-printed : (command : Option Command) (name : List ℕ) (source source_now : SourceKnown) (files files_now : FilesKnown) (out out_now err err_now : SinkKnown) (code : ℕ) (printed : List ℕ) → TextCause command name source source_now files files_now printed → Prints printed out out_now err err_now code → Statuses command name source source_now files files_now out out_now err err_now code
+of-printed command name source source_now files files_now out out_now err err_now code printed cause h = let code_is = h.status in record {
+  usage = λ none. absurd (cause.known none);
+  usage_only = λ is. absurd (omega (arith, is, code_is));
+  script_only = λ is. absurd (omega (arith, is, code_is));
+  refused_only = λ is. absurd (omega (arith, is, code_is));
+  read_only = λ is. absurd (omega (arith, is, code_is));
+  input_only = λ is. absurd (omega (arith, is, code_is));
+  output_only = λ is. absurd (omega (arith, is, code_is));
+  open_only = λ is. absurd (omega (arith, is, code_is));
+  too_long_only = λ is. absurd (omega (arith, is, code_is));
+  silent = inr (inl h.status);
+  told = inl (h.status, h.quiet);
+  served = λ serve is text file told bytes. let g = cause.gives serve text file told bytes in record { steps = g.loads.steps; script = g.loads.script; distinct = g.loads.distinct; read = g.loads.read; asked = g.asked; printed = printed; serves = g.serves; took = h.took };
+  complete = λ serve text file well. inl (h.status ∙ sym (text-deserved name text file source source_now files files_now printed (cause.gives serve text file well.input well.bytes)));
+}
+
+of-cut : (command : Option Command) (name : List ℕ) (source source_now : SourceKnown) (files files_now : FilesKnown) (out out_now err err_now : SinkKnown) (code : ℕ) (printed : List ℕ) → TextCause command name source source_now files files_now printed → CutShort printed out out_now → Fails failures.Output name err err_now code → Statuses command name source source_now files files_now out out_now err err_now code
+of-cut command name source source_now files files_now out out_now err err_now code printed cause cut h = let code_is : code ≡ 7 = h.status in record {
+  usage = λ none. absurd (cause.known none);
+  usage_only = λ is. absurd (omega (arith, is, code_is));
+  script_only = λ is. absurd (omega (arith, is, code_is));
+  refused_only = λ is. absurd (omega (arith, is, code_is));
+  read_only = λ is. absurd (omega (arith, is, code_is));
+  input_only = λ is. absurd (omega (arith, is, code_is));
+  output_only = λ is. cut.rose;
+  open_only = λ is. absurd (omega (arith, is, code_is));
+  too_long_only = λ is. absurd (omega (arith, is, code_is));
+  silent = inr (inr (inl h.status));
+  told = inr (record { failure = failures.Output; status = h.status; told = h.told });
+  served = λ serve is. absurd (omega (arith, is, code_is));
+  complete = λ serve text file well. absurd (not-rising out.faults out_now.faults well.output_steady cut.rose);
+}
+
+of-unfinished : (command : Option Command) (name : List ℕ) (source source_now : SourceKnown) (files files_now : FilesKnown) (out out_now err err_now : SinkKnown) (code : ℕ) (printed : List ℕ) → TextCause command name source source_now files files_now printed → Fails failures.OutOfMemory name err err_now code → Statuses command name source source_now files files_now out out_now err err_now code
+of-unfinished command name source source_now files files_now out out_now err err_now code printed cause h = let code_is : code ≡ 70 = h.status in record {
+  usage = λ none. absurd (cause.known none);
+  usage_only = λ is. absurd (omega (arith, is, code_is));
+  script_only = λ is. absurd (omega (arith, is, code_is));
+  refused_only = λ is. absurd (omega (arith, is, code_is));
+  read_only = λ is. absurd (omega (arith, is, code_is));
+  input_only = λ is. absurd (omega (arith, is, code_is));
+  output_only = λ is. absurd (omega (arith, is, code_is));
+  open_only = λ is. absurd (omega (arith, is, code_is));
+  too_long_only = λ is. absurd (omega (arith, is, code_is));
+  silent = inr (inr (inr h.status));
+  told = inr (record { failure = failures.OutOfMemory; status = h.status; told = h.told });
+  served = λ serve is. absurd (omega (arith, is, code_is));
+  complete = λ serve text file well. inr h.status;
+}
+
+of-text : (command : Option Command) (name : List ℕ) (source source_now : SourceKnown) (files files_now : FilesKnown) (out out_now err err_now : SinkKnown) (code : ℕ) (printed : List ℕ) → TextCause command name source source_now files files_now printed
+    → Prints printed out out_now err err_now code ⊎ ((CutShort printed out out_now × Fails failures.Output name err err_now code) ⊎ (Unfinished printed out out_now × Fails failures.OutOfMemory name err err_now code)) → Statuses command name source source_now files files_now out out_now err err_now code
+of-text command name source source_now files files_now out out_now err err_now code printed cause (inl h) = of-printed command name source source_now files files_now out out_now err err_now code printed cause h
+of-text command name source source_now files files_now out out_now err err_now code printed cause (inr (inl h)) = of-cut command name source source_now files files_now out out_now err err_now code printed cause h.0 h.1
+of-text command name source source_now files files_now out out_now err err_now code printed cause (inr (inr h)) = of-unfinished command name source source_now files files_now out out_now err err_now code printed cause h.1
+
+of_answer : (command : Option Command) (name : List ℕ) (source source_now : SourceKnown) (files files_now : FilesKnown) (out out_now err err_now : SinkKnown) (code : ℕ) (answer : Result (Vec ℕ Global) Failure) → CommandCause command name source source_now files files_now answer → Concludes answer name out out_now err err_now code → Statuses command name source source_now files files_now out out_now err err_now code
+of_answer command name source source_now files files_now out out_now err err_now code (Ok printed) cause h = of-text command name source source_now files files_now out out_now err err_now code printed.items (command-gives command name source source_now files files_now printed cause) h
+of_answer command name source source_now files files_now out out_now err err_now code (Err failure) cause h = of-failure command name source source_now files files_now out out_now err err_now code failure cause h.0 h.1
+
+-- the same, where the name that a failure tells is that of the words
+pub of_named : (command : Option Command) (name given : List ℕ) (source source_now : SourceKnown) (files files_now : FilesKnown) (out out_now err err_now : SinkKnown) (code : ℕ) (answer : Result (Vec ℕ Global) Failure) → CommandCause command name source source_now files files_now answer → given ≡ name → Concludes answer given out out_now err err_now code → Statuses command name source source_now files files_now out out_now err err_now code
+of_named command name given source source_now files files_now out out_now err err_now code answer cause same h = of_answer command name source source_now files files_now out out_now err err_now code answer cause (subst (λ n. Concludes answer n out out_now err err_now code) same h)
