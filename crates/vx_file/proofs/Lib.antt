@@ -1,0 +1,2 @@
+pub mod OneRange
+pub mod Requests

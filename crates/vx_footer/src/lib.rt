@@ -1,0 +1,18 @@
+//! Reads the footer of a file from its tail.
+#![tactic(auto)]
+
+mod error;
+mod footer;
+mod list;
+mod marker;
+mod opening;
+mod postscript;
+mod ptype;
+mod table;
+mod table_error;
+mod table_reading;
+
+pub use error::{OpenError, Which};
+pub use footer::Footer;
+pub use list::{SegmentSpecs, TextList};
+pub use ptype::PType;

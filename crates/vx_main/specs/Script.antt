@@ -1,0 +1,88 @@
+-- The script that a text spells: one step a line.
+use Rattle.std.specs.Prelude.{◌+◌, ◌*◌, ◌-◌, ◌^◌, ◌≡◌, ◌++◌, ℕ, Bool, false, ◌&&◌, length, ◌==◌, nat_lt, if◌then◌else◌, List, [], ◌∷◌, Option, Some, None, Result, Ok, Err, Vec}
+use Rattle.std.specs.List.{list_all}
+use Rattle.std.specs.Char.{is_ascii_digit}
+use Rattle.std.specs.declared.alloc.Global.{Global}
+use Rattle.vx_main.specs.declared.script.ScriptError.{ScriptError}
+use Rattle.vx_main.specs.declared.script.ScriptError.TheVariants.{Line, OutOfMemory}
+use Rattle.vx_file.specs.declared.Step.{Step}
+use Rattle.vx_file.specs.declared.Step.TheVariants.{Register, Poll}
+
+-- digits without a leading zero: one spelling for each number
+abbrev pub is_plain : List ℕ → Bool
+is_plain [] = false
+is_plain (digit ∷ digits) = if digit == 48 then nat_lt (length digits) 1 else list_all is_ascii_digit (digit ∷ digits)
+
+-- the value of digits that stand after those of another number
+abbrev pub value_after : ℕ → List ℕ → ℕ
+value_after before [] = before
+value_after before (digit ∷ digits) = value_after (10 * before + (digit - 48)) digits
+
+-- the number of 64 bits that a text spells
+unfoldable pub number_of : List ℕ → Option ℕ
+number_of text = if is_plain text && nat_lt (value_after 0 text) (2 ^ 64) then Some (value_after 0 text) else None
+
+abbrev pub register_of : Option ℕ → Option Step
+register_of None = None
+register_of (Some number) = if nat_lt number (2 ^ 32) then Some (Register number) else None
+
+abbrev pub poll_of : Option ℕ → Option Step
+poll_of None = None
+poll_of (Some number) = Some (Poll number)
+
+-- `r SEGMENT` registers, `p NUMBER` polls
+unfoldable pub step_of : List ℕ → Option Step
+step_of [] = None
+step_of (letter ∷ []) = None
+step_of (letter ∷ space ∷ digits) =
+    if space == 32 then
+    (if letter == 114 then register_of (number_of digits)
+    else if letter == 112 then poll_of (number_of digits)
+    else None)
+    else None
+
+-- a byte before the first of some lines
+abbrev pub onto_first : ℕ → List (List ℕ) → List (List ℕ)
+onto_first byte [] = (byte ∷ []) ∷ []
+onto_first byte (line ∷ lines) = (byte ∷ line) ∷ lines
+
+-- the lines of a text, each ended by a line feed, which may lack at the end
+abbrev pub lines_of : List ℕ → List (List ℕ)
+lines_of [] = []
+lines_of (byte ∷ bytes) = if byte == 10 then [] ∷ lines_of bytes else onto_first byte (lines_of bytes)
+
+-- how many bytes stand before the first line feed
+abbrev pub line_length : List ℕ → ℕ
+line_length [] = 0
+line_length (byte ∷ bytes) = if byte == 10 then 0 else line_length bytes + 1
+
+abbrev pub with_step : Step → Result (List Step) ℕ → Result (List Step) ℕ
+with_step step (Ok steps) = Ok (step ∷ steps)
+with_step step (Err line) = Err line
+
+abbrev pub go_on : ℕ → Option Step → Result (List Step) ℕ → Result (List Step) ℕ
+go_on line None rest = Err line
+go_on line (Some step) rest = with_step step rest
+
+-- the steps of lines of which the first has this number, or the number of the first that is no step
+abbrev pub steps_from : ℕ → List (List ℕ) → Result (List Step) ℕ
+steps_from number [] = Ok []
+steps_from number (line ∷ lines) = go_on number (step_of line) (steps_from (number + 1) lines)
+
+-- the steps of a text, or the number of its first line, from 1, that is no step
+abbrev pub script_of : List ℕ → Result (List Step) ℕ
+script_of text = steps_from 1 (lines_of text)
+
+-- what a reader of a script answers, where this is the script
+abbrev pub Fails : ScriptError → Result (List Step) ℕ → Type 0
+Fails OutOfMemory script = Unit {0}
+Fails (Line number) script = script ≡ Err number
+
+abbrev pub Reads : Result (Vec Step Global) ScriptError → Result (List Step) ℕ → Type 0
+Reads (Ok steps) script = script ≡ Ok steps.items
+Reads (Err error) script = Fails error script
+
+-- more steps after these, where the rest could be read
+abbrev pub with_front : List Step → Result (List Step) ℕ → Result (List Step) ℕ
+with_front front (Ok steps) = Ok (front ++ steps)
+with_front front (Err line) = Err line

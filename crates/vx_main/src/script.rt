@@ -1,0 +1,141 @@
+//! Scripts: a step a line.
+
+ghost use Rattle.std.specs.Prelude.{◌≡◌, ℕ, ◌+◌, ◌<◌, ◌≤◌, ◌∷◌, [], List, length, drop};
+ghost use Rattle.std.specs.List.{list_all};
+ghost use Rattle.std.specs.Char.{is_ascii_digit};
+ghost use Rattle.vx_main.specs.Script.{number_of, register_of, poll_of, step_of, lines_of, line_length, is_plain as is_plain_text, script_of, Reads};
+
+use std::alloc::{AllocError, AllocFailed, Global};
+use vx_file::Step;
+
+/// Why a script could not be read.
+#[derive(Clone, Copy, Debug, PartialEq, Eq)]
+pub enum ScriptError {
+    /// The first line, counted from 1, that is no step.
+    Line(u64),
+    OutOfMemory,
+}
+
+impl<T: Drop> From<AllocFailed<T>> for ScriptError {
+    ghost use Rattle.vx_main.specs.declared.script.ScriptError.TheVariants.{OutOfMemory};
+
+    ghost from_gives = { λ _ e. e ≡ OutOfMemory };
+
+    fn from(_failed: AllocFailed<T>) -> ScriptError {
+        ScriptError::OutOfMemory
+    }
+}
+
+fn are_digits(text: &[u8]) -> bool
+    ensures { result ≡ list_all is_ascii_digit text.now }
+{
+    text.iter().all(|byte| byte.is_ascii_digit())
+}
+
+// One spelling for each number: no leading zero.
+fn is_plain(text: &[u8]) -> bool
+    ensures { result ≡ is_plain_text text.now }
+{
+    if text.is_empty() {
+        return false;
+    }
+    if text[0] == b'0' {
+        return text.len() == 1;
+    }
+    are_digits(text)
+}
+
+/// The number that decimal digits spell, without sign or leading zero, below 2^64.
+#[tactic(auto, unfolding(crate::specs::Script::number_of))]
+fn number(text: &[u8]) -> Option<u64>
+    ensures { result ≡ number_of text.now }
+{
+    if !is_plain(text) {
+        return None;
+    }
+    let mut value = 0u64;
+    for digit in text {
+        value = value
+            .checked_mul(10)?
+            .checked_add(u64::from(digit.saturating_sub(b'0')))?;
+    }
+    Some(value)
+}
+
+fn register(segment: Option<u64>) -> Option<Step>
+    ensures { result ≡ register_of segment }
+{
+    match segment {
+        Some(segment) if segment <= u64::from(u32::MAX) => Some(Step::Register(segment as u32)),
+        _ => None,
+    }
+}
+
+fn poll(number: Option<u64>) -> Option<Step>
+    ensures { result ≡ poll_of number }
+{
+    Some(Step::Poll(number?))
+}
+
+/// The step that a line spells.
+#[tactic(auto, unfolding(crate::specs::Script::step_of))]
+fn step(line: &[u8]) -> Option<Step>
+    ensures { result ≡ step_of line.now }
+{
+    let [letter, space, digits @ ..] = line else {
+        return None;
+    };
+    if *space != b' ' {
+        return None;
+    }
+    match *letter {
+        b'r' => register(number(digits)),
+        b'p' => poll(number(digits)),
+        _ => None,
+    }
+}
+
+/// How many bytes stand before the first line feed.
+fn line_end(text: &[u8]) -> usize
+    ensures length { result ≡ line_length text.now }
+    ensures within { result ≤ length text.now }
+{
+    let mut end = 0;
+    for byte in text {
+        if *byte == b'\n' {
+            return end;
+        }
+        end += 1;
+    }
+    end
+}
+
+/// What stands after a line of this length and its line feed.
+fn after_line(text: &[u8], end: usize) -> &[u8]
+    requires { end ≤ length text.now }
+    ensures { result.now ≡ drop (end + 1) text.now }
+{
+    if end == text.len() {
+        return &text[end..];
+    }
+    &text[end + 1..]
+}
+
+/// The steps of a script, a line each. Refuses the first line that is no step.
+pub fn read(alloc: Global, text: &[u8]) -> Result<Vec<Step>, ScriptError>
+    ensures { Reads result (script_of text.now) }
+{
+    let mut steps = Vec::new(alloc);
+    let mut rest = text;
+    let mut line = 0u64;
+    while !rest.is_empty() {
+        line += 1;
+        let end = line_end(rest);
+        let Some(next) = step(&rest[..end]) else {
+            return Err(ScriptError::Line(line));
+        };
+        steps.push(next)?;
+        rest = after_line(rest, end);
+    }
+    Ok(steps)
+}
