@@ -1,0 +1,11 @@
+#![tactic(auto)]
+
+// The scheduler of a coalescing reader: reads are registered, polled, gathered into spans, and
+// resolved.
+mod io_request;
+mod request;
+mod span;
+
+pub use io_request::IoRequest;
+pub use request::ReadRequest;
+pub use span::{CoalescedRequest, RangeError};
