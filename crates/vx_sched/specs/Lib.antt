@@ -1,2 +1,4 @@
-pub mod Span
 pub mod Io
+pub mod Places
+pub mod Reads
+pub mod Span

@@ -1,0 +1,137 @@
+// The reads of a scheduler, by number, and the places of those that wait.
+ghost use Rattle.std.specs.Prelude.{◌≡◌, ℕ, ◌<◌, ◌^◌, [], None, Some, cond, true, false, ◌&&◌, not, IsSome, IfSome, OnOk, OnErr, option_map};
+ghost use Rattle.std.specs.BTreeMap.{insert_entry, is_at};
+ghost use Rattle.std.specs.BTreeSet.{contains};
+ghost use Rattle.std.specs.Ordering.{nat_cmp};
+ghost use Rattle.vx_sched.specs.Span.{end_of};
+ghost use Rattle.vx_sched.specs.Reads.{read_at, changed, with_stage, is_waiting};
+ghost use Rattle.vx_sched.specs.Places.{place_cmp, stays_waiting};
+
+use crate::read::{Change, Read, Stage, stage_after};
+use crate::ReadRequest;
+use std::alloc::{AllocError, Global};
+use std::collections::{BTreeMap, BTreeSet};
+use std::marker::Model;
+
+#[derive(Drop)]
+pub struct Table {
+    reads: BTreeMap<u64, Read>,
+    places: BTreeSet<(u64, u64)>,
+}
+
+impl Model for Table {
+    ghost use Rattle.vx_sched.specs.Reads.{Reads};
+    ghost use Rattle.vx_sched.specs.Places.{IsTable};
+
+    ghost Value = { Reads };
+
+    ghost view = { λ t. t.reads.entries };
+
+    ghost invariant = { λ t. IsTable t.reads.entries t.places };
+}
+
+// Adds a read and its place, or neither.
+fn add(
+    reads: &mut BTreeMap<u64, Read>,
+    places: &mut BTreeSet<(u64, u64)>,
+    request: ReadRequest,
+) -> Result<(), AllocError>
+    ensures entries { OnOk result (reads.new.entries ≡ insert_entry nat_cmp reads.old.entries request.id
+        (record { request = request; stage = Stage.Registered })) }
+    ensures lookups { OnOk result ((q : ℕ) → read_at reads.new.entries q
+        ≡ cond (is_at (nat_cmp request.id) q) (Some (record { request = request; stage = Stage.Registered }))
+            (read_at reads.old.entries q)) }
+    ensures places { OnOk result ((k : ℕ × ℕ) → contains place_cmp places.new k
+        ≡ cond (is_at (place_cmp (request.offset, request.id)) k) true (contains place_cmp places.old k)) }
+    ensures kept { OnErr result (reads.new.entries ≡ reads.old.entries) }
+    ensures kept_places { contains place_cmp places.old (request.offset, request.id) ≡ false → OnErr result
+        ((k : ℕ × ℕ) → contains place_cmp places.new k ≡ contains place_cmp places.old k) }
+{
+    let id = request.id;
+    let place = (request.offset, id);
+    places.insert(place)?;
+    let read = Read {
+        request,
+        stage: Stage::Registered,
+    };
+    match reads.insert(id, read) {
+        Ok(_) => Ok(()),
+        Err(_) => {
+            places.remove(&place);
+            Err(AllocError)
+        }
+    }
+}
+
+// Puts a read that is there in another stage, or takes it out.
+fn put(reads: &mut BTreeMap<u64, Read>, request: ReadRequest, stage: Option<Stage>)
+    requires { IsSome (read_at reads.old.entries request.id) }
+    ensures entries { reads.new.entries ≡ with_stage reads.old.entries request stage }
+    ensures lookups { (q : ℕ) → read_at reads.new.entries q ≡ cond (is_at (nat_cmp request.id) q)
+        (option_map (λ s. record { request = request; stage = s }) stage) (read_at reads.old.entries q) }
+{
+    match stage {
+        Some(stage) => match reads.insert(request.id, Read { request, stage }) {
+            Ok(_) => {}
+            Err(_) => unreachable!(),
+        },
+        None => {
+            reads.remove(&request.id);
+        }
+    }
+}
+
+// Takes the place of a read out, where it waits no longer.
+fn leave(places: &mut BTreeSet<(u64, u64)>, read: &Read, stage: Option<Stage>)
+    ensures { (k : ℕ × ℕ) → contains place_cmp places.new k ≡ cond
+        (is_waiting read.now.stage && not (stays_waiting stage) && is_at (place_cmp (read.now.request.offset, read.now.request.id)) k)
+        false (contains place_cmp places.old k) }
+{
+    let stays = match stage {
+        Some(stage) => stage.is_waiting(),
+        None => false,
+    };
+    if read.stage.is_waiting() && !stays {
+        places.remove(&(read.request.offset, read.request.id));
+    }
+}
+
+impl Table {
+    pub fn new(alloc: Global) -> Table
+        ensures { result ≡ [] }
+    {
+        Table {
+            reads: BTreeMap::new(alloc),
+            places: BTreeSet::new(alloc),
+        }
+    }
+
+    pub fn read(&self, id: u64) -> Option<Read>
+        ensures value { result ≡ read_at self.now id }
+        ensures keyed { IfSome result (λ x. (x.request.id ≡ id) × (end_of x.request < 2 ^ 64)) }
+    {
+        self.reads.get(&id).copied()
+    }
+
+    // Registers a read of a new number. Only memory refuses.
+    pub fn register(&mut self, request: ReadRequest) -> Result<(), AllocError>
+        requires fresh { read_at self.old request.id ≡ None }
+        requires fits { end_of request < 2 ^ 64 }
+        ensures registered { OnOk result (self.new ≡ insert_entry nat_cmp self.old request.id
+            (record { request = request; stage = Stage.Registered })) }
+        ensures kept { OnErr result (self.new ≡ self.old) }
+    {
+        add(&mut self.reads, &mut self.places, request)
+    }
+
+    // Changes the read of a number, if there is one.
+    pub fn change(&mut self, id: u64, change: Change)
+        ensures { self.new ≡ changed change self.old id }
+    {
+        if let Some(read) = self.read(id) {
+            let stage = stage_after(change, read.stage);
+            put(&mut self.reads, read.request, stage);
+            leave(&mut self.places, &read, stage);
+        }
+    }
+}
