@@ -119,6 +119,7 @@ impl Table {
         requires fits { end_of request < 2 ^ 64 }
         ensures registered { OnOk result (self.new ≡ insert_entry nat_cmp self.old request.id
             (record { request = request; stage = Stage.Registered })) }
+        ensures others { OnOk result ((q : ℕ) → request.id < q → read_at self.new q ≡ read_at self.old q) }
         ensures kept { OnErr result (self.new ≡ self.old) }
     {
         add(&mut self.reads, &mut self.places, request)
@@ -126,7 +127,8 @@ impl Table {
 
     // Changes the read of a number, if there is one.
     pub fn change(&mut self, id: u64, change: Change)
-        ensures { self.new ≡ changed change self.old id }
+        ensures changed { self.new ≡ changed change self.old id }
+        ensures none { (q : ℕ) → read_at self.old q ≡ None → read_at self.new q ≡ None }
     {
         if let Some(read) = self.read(id) {
             let stage = stage_after(change, read.stage);

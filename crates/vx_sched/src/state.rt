@@ -1,0 +1,133 @@
+// The scheduler's state.
+ghost use Rattle.std.specs.Prelude.{◌≡◌, ℕ, ◌+◌, ◌<◌, ◌≤◌, [], true, option_map, None, Some, IsOk, OnOk, OnErr};
+ghost use Rattle.vx_sched.specs.Reads.{read_at, all_changed};
+ghost use Rattle.vx_sched.specs.Merging.{raised};
+ghost use Rattle.vx_sched.specs.Scheduling.{MayHappen, stepped, takes_no_memory, MayTake, taken, all_taken, resolved, in_flight};
+
+use crate::read::Change;
+use crate::table::Table;
+use crate::{CoalescedRequest, ReadEvent, ReadRequest};
+use std::alloc::{AllocError, Global};
+use std::marker::Model;
+use vx_base::{Alignment, CoalesceConfig};
+
+/// Reads that are registered, polled, in flight and resolved, and how they are gathered.
+#[derive(Drop)]
+pub struct State {
+    gathering: Option<CoalesceConfig>,
+    aligned: Alignment,
+    most: usize,
+    table: Table,
+    last: Option<u64>,
+}
+
+impl Model for State {
+    ghost use Rattle.std.specs.Prelude.{◌≡◌, ℕ, ◌+◌, ◌≤◌, None};
+    ghost use Rattle.std.specs.Option.{option_map_or};
+    ghost use Rattle.vx_sched.specs.Reads.{read_at};
+    ghost use Rattle.vx_sched.specs.Scheduling.{Scheduler};
+
+    ghost Value = { Scheduler };
+
+    ghost view = { λ s. record { window = s.gathering; alignment = s.aligned; concurrency = s.most; reads = s.table; next = option_map_or (λ n. n + 1) s.last 0 } };
+
+    ghost invariant = { λ s. (1 ≤ s.most) × ((q : ℕ) → option_map_or (λ n. n + 1) s.last 0 ≤ q → read_at s.table q ≡ None) };
+}
+
+// Changes several reads.
+fn change_all(table: &mut Table, change: Change, reads: &[ReadRequest])
+    ensures changed { table.new ≡ all_changed change table.old reads.now }
+    ensures none { (q : ℕ) → read_at table.old q ≡ None → read_at table.new q ≡ None }
+{
+    for read in reads {
+        table.change(read.id, change);
+    }
+}
+
+impl State {
+    /// A scheduler without reads. The window's limit gets room for the start to be aligned down.
+    pub fn new(
+        alloc: Global,
+        window: Option<CoalesceConfig>,
+        alignment: Alignment,
+        concurrency: usize,
+    ) -> State
+        requires { 1 ≤ concurrency }
+        ensures { result ≡ record { window = option_map (raised alignment) window; alignment = alignment;
+            concurrency = concurrency; reads = []; next = 0 } }
+    {
+        State {
+            gathering: raise(window, alignment),
+            aligned: alignment,
+            most: concurrency,
+            table: Table::new(alloc),
+            last: None,
+        }
+    }
+
+    /// What a caller does. Only a new read takes memory.
+    pub fn on_event(&mut self, event: ReadEvent) -> Result<(), AllocError>
+        requires { MayHappen self.old event }
+        ensures step { OnOk result (self.new ≡ stepped self.old event) }
+        ensures kept { OnErr result (self.new ≡ self.old) }
+        ensures sure { takes_no_memory event ≡ true → IsOk result }
+    {
+        match event {
+            ReadEvent::Request(request) => {
+                let id = request.id;
+                self.table.register(request)?;
+                self.last = Some(id);
+            }
+            ReadEvent::Polled(id) => self.table.change(id, Change::Poll),
+            ReadEvent::Dropped(id) => self.table.change(id, Change::Cancel),
+        }
+        Ok(())
+    }
+
+    // Puts the reads of a span in flight.
+    fn take_one(&mut self, span: &CoalescedRequest)
+        ensures { self.new ≡ taken self.old span.now }
+    {
+        let reads = span.requests();
+        let number = match reads.first() {
+            Some(first) => first.id,
+            None => 0,
+        };
+        let change = Change::Take {
+            span: number,
+            size: reads.len(),
+        };
+        change_all(&mut self.table, change, reads);
+    }
+
+    /// Puts the reads of a batch in flight.
+    pub fn take(&mut self, batch: &[CoalescedRequest])
+        requires { MayTake self.old batch.now }
+        ensures { self.new ≡ all_taken self.old batch.now }
+    {
+        for span in batch {
+            self.take_one(span);
+        }
+    }
+
+    /// Resolves the reads of a span in flight; those that were dropped are gone.
+    pub fn resolve(&mut self, range: &CoalescedRequest)
+        requires { in_flight self.old range.now ≡ true }
+        ensures { self.new ≡ resolved self.old range.now }
+    {
+        change_all(&mut self.table, Change::Resolve, range.requests());
+    }
+}
+
+// The window with room for the start to be aligned down.
+fn raise(window: Option<CoalesceConfig>, alignment: Alignment) -> Option<CoalesceConfig>
+    ensures { result ≡ option_map (raised alignment) window }
+{
+    match window {
+        None => None,
+        Some(window) => Some(CoalesceConfig {
+            distance: window.distance,
+            max_size: window.max_size.saturating_add(alignment.as_u64() - 1),
+        }),
+    }
+}
