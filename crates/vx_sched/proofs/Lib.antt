@@ -1,2 +1,4 @@
 pub mod SpanLemmas
 pub mod TableLemmas
+pub mod InsertLemmas
+pub mod PickLemmas

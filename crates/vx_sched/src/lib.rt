@@ -3,6 +3,7 @@
 // The scheduler of a coalescing reader: reads are registered, polled, gathered into spans, and
 // resolved.
 mod event;
+mod gather;
 mod io_request;
 mod read;
 mod request;

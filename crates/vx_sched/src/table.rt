@@ -4,7 +4,7 @@ ghost use Rattle.std.specs.BTreeMap.{insert_entry, is_at};
 ghost use Rattle.std.specs.BTreeSet.{contains};
 ghost use Rattle.std.specs.Ordering.{nat_cmp};
 ghost use Rattle.vx_sched.specs.Span.{end_of};
-ghost use Rattle.vx_sched.specs.Reads.{read_at, changed, with_stage, is_waiting};
+ghost use Rattle.vx_sched.specs.Reads.{read_at, waiting_at, changed, with_stage, is_waiting};
 ghost use Rattle.vx_sched.specs.Places.{place_cmp, stays_waiting};
 
 use crate::read::{Change, Read, Stage, stage_after};
@@ -111,6 +111,19 @@ impl Table {
         ensures keyed { IfSome result (λ x. (x.request.id ≡ id) × (end_of x.request < 2 ^ 64)) }
     {
         self.reads.get(&id).copied()
+    }
+
+    // The waiting read of a number.
+    pub fn waiting(&self, id: u64) -> Option<ReadRequest>
+        ensures value { result ≡ waiting_at self.now id }
+        ensures keyed { IfSome result (λ r. (r.id ≡ id) × (end_of r < 2 ^ 64)) }
+    {
+        let read = self.read(id)?;
+        if read.stage.is_waiting() {
+            Some(read.request)
+        } else {
+            None
+        }
     }
 
     // Registers a read of a new number. Only memory refuses.
