@@ -1,11 +1,14 @@
 -- A table of reads and places, after a change.
-use Rattle.std.proofs.Common.{◌≡◌, ℕ, ◌<◌, ◌^◌, ◌==◌, ◌&&◌, not, Bool, true, false, cond, Option, Some, None, option_map, refl, ap, sym, ◌∙◌, arith, subst, unwrap_or}
+use Rattle.std.proofs.Common.{◌≡◌, ℕ, ◌≤◌, ◌||◌, List, [], ◌∷◌, map, ◌<◌, ◌^◌, ◌==◌, ◌&&◌, not, Bool, true, false, cond, Option, Some, None, option_map, refl, ap, sym, ◌∙◌, arith, subst, unwrap_or}
 use Rattle.std.proofs.lemmas.Bool.Decides.{nat_tests}
+use Rattle.std.specs.List.{list_any, filter}
 use Rattle.std.specs.BTreeMap.{is_at}
-use Rattle.std.specs.BTreeSet.{BTreeSet, contains}
+use Rattle.std.specs.BTreeSet.{BTreeSet, contains, keys_between}
+use Rattle.std.specs.BTreeMap.Range.{range_contains}
+use Rattle.std.specs.declared.ops.Bound.TheVariants.{Included}
 use Rattle.std.specs.Ordering.{nat_cmp}
 use Rattle.vx_sched.specs.Span.{end_of}
-use Rattle.vx_sched.specs.Reads.{Reads, read_at, is_waiting, after}
+use Rattle.vx_sched.specs.Reads.{Reads, read_at, waiting_at, if_waiting, is_waiting, after}
 use Rattle.vx_sched.specs.Places.{place_cmp, waits_at, stays_waiting, IsTable}
 use Rattle.vx_sched.specs.declared.request.ReadRequest.{ReadRequest}
 use Rattle.vx_sched.specs.declared.read.Read.{Read}
@@ -107,6 +110,7 @@ module _ (reads reads' : Reads) (places places' : BTreeSet (ℕ × ℕ)) (x : Re
   changed-table = record {
     tied = λ o q. tied-at o q (x.request.id == q) refl;
     keyed = λ q y h. put-keeps (λ n r. r.id ≡ n) q x.request stage (read_at reads q) y (x.request.id == q) (λ e. grind (arith, nat_tests)) (t.keyed q) (sym (found-at q) ∙ h);
+    small = λ q y h. put-keeps (λ n r. n < 2 ^ 64) q x.request stage (read_at reads q) y (x.request.id == q) (λ e. let s = t.small x.request.id x found in grind (arith, nat_tests)) (t.small q) (sym (found-at q) ∙ h);
     fits = λ q y h. put-keeps (λ n r. end_of r < 2 ^ 64) q x.request stage (read_at reads q) y (x.request.id == q) (λ _. t.fits x.request.id x found) (t.fits q) (sym (found-at q) ∙ h) }
 
 -- a place that was put in and taken out again
@@ -129,6 +133,7 @@ pub same-table : (reads reads' : Reads) (places places' : BTreeSet (ℕ × ℕ))
 same-table reads reads' places places' t e same = rw e (record {
   tied = λ o q. same (o, q) ∙ t.tied o q;
   keyed = t.keyed;
+  small = t.small;
   fits = t.fits })
 
 -- nothing waits at the place of a new read
@@ -136,7 +141,7 @@ pub fresh-place : (reads : Reads) (places : BTreeSet (ℕ × ℕ)) (r : ReadRequ
 fresh-place reads places r t fresh = t.tied r.offset r.id ∙ ap (waits_at r.offset) fresh
 
 module _ (reads reads' : Reads) (places places' : BTreeSet (ℕ × ℕ)) (r : ReadRequest) (t : IsTable reads places)
-  (fresh : read_at reads r.id ≡ None) (ends : end_of r < 2 ^ 64)
+  (fresh : read_at reads r.id ≡ None) (number : r.id < 2 ^ 64) (ends : end_of r < 2 ^ 64)
   (lookups : (q : ℕ) → read_at reads' q ≡ cond (is_at (nat_cmp r.id) q) (Some (record { request = r; stage = Registered })) (read_at reads q))
   (placed : (k : ℕ × ℕ) → contains place_cmp places' k ≡ cond (is_at (place_cmp (r.offset, r.id)) k) true (contains place_cmp places k)) where
 
@@ -173,4 +178,62 @@ module _ (reads reads' : Reads) (places places' : BTreeSet (ℕ × ℕ)) (r : Re
   added-table = record {
     tied = λ o q. added-tied o q (r.id == q) refl;
     keyed = λ q y h. put-keeps (λ n s. s.id ≡ n) q r (Some Registered) (read_at reads q) y (r.id == q) (λ e. grind (arith, nat_tests)) (t.keyed q) (sym (added-at q) ∙ h);
+    small = λ q y h. put-keeps (λ n s. n < 2 ^ 64) q r (Some Registered) (read_at reads q) y (r.id == q) (λ e. grind (arith, nat_tests)) (t.small q) (sym (added-at q) ∙ h);
     fits = λ q y h. put-keeps (λ n s. end_of s < 2 ^ 64) q r (Some Registered) (read_at reads q) y (r.id == q) (λ _. ends) (t.fits q) (sym (added-at q) ∙ h) }
+
+-- a place that is among those within bounds
+pub near-listed : (p : ℕ × ℕ → Bool) (o q : ℕ) → p (o, q) ≡ true → (keys : List (ℕ × ℕ)) → list_any (is_at (place_cmp (o, q))) keys ≡ true → list_any (λ n. n == q) (map (λ (k : ℕ × ℕ). k.1) (filter p keys)) ≡ true
+near-listed p o q inside [] h = cc
+near-listed p o q inside (k ∷ ks) h = at (is_at (place_cmp (o, q)) k) refl h (near-listed p o q inside ks)
+  where
+    or-right : (a b : Bool) → b ≡ true → (a || b) ≡ true
+    or-right true b h = refl
+    or-right false b h = h
+    skip : (b : Bool) → list_any (λ n. n == q) (map (λ (j : ℕ × ℕ). j.1) (filter p ks)) ≡ true → list_any (λ n. n == q) (map (λ (j : ℕ × ℕ). j.1) (cond b (k ∷ filter p ks) (filter p ks))) ≡ true
+    skip true h = or-right (k.1 == q) _ h
+    skip false h = h
+    here : (b : Bool) → b ≡ true → (k.1 == q) ≡ true → list_any (λ n. n == q) (map (λ (j : ℕ × ℕ). j.1) (cond b (k ∷ filter p ks) (filter p ks))) ≡ true
+    here true e h = ap (λ x. x || list_any (λ n. n == q) (map (λ (j : ℕ × ℕ). j.1) (filter p ks))) h
+    here false e h = cc
+    at : (b : Bool) → is_at (place_cmp (o, q)) k ≡ b → (b || list_any (is_at (place_cmp (o, q))) ks) ≡ true
+      → (list_any (is_at (place_cmp (o, q))) ks ≡ true → list_any (λ n. n == q) (map (λ (j : ℕ × ℕ). j.1) (filter p ks)) ≡ true)
+      → list_any (λ n. n == q) (map (λ (j : ℕ × ℕ). j.1) (filter p (k ∷ ks))) ≡ true
+    at true e h step =
+      let both : ((o == k.0) && (q == k.1)) ≡ true = sym (place-eq o q k.0 k.1) ∙ e in
+      let first : o ≡ k.0 = grind (arith, nat_tests) in
+      let second : q ≡ k.1 = grind (arith, nat_tests) in
+      let number : (k.1 == q) ≡ true = grind (arith, nat_tests) in
+      let kept : p (k.0, k.1) ≡ true = subst (λ n. p (k.0, n) ≡ true) second (subst (λ n. p (n, q) ≡ true) first inside) in
+      here (p k) kept number
+    at false e h step = skip (p k) (step h)
+
+-- a waiting read has its place
+pub waiting-placed : (reads : Reads) (places : BTreeSet (ℕ × ℕ)) → IsTable reads places → (id : ℕ) (r : ReadRequest) → waiting_at reads id ≡ Some r → contains place_cmp places (r.offset, id) ≡ true
+waiting-placed reads places t id r h = t.tied r.offset id ∙ at (read_at reads id) h
+  where
+    at : (x : Option Read) → if_waiting x ≡ Some r → waits_at r.offset x ≡ true
+    at None h = cc
+    at (Some x) h = stage (is_waiting x.stage) h
+      where
+        stage : (b : Bool) → cond b (Some x.request) None ≡ Some r → (b && (x.request.offset == r.offset)) ≡ true
+        stage true h =
+          let e : x.request.offset ≡ r.offset = ap (λ (o : Option ReadRequest). unwrap_or (option_map (λ s. s.offset) o) 0) h in
+          grind (arith, nat_tests)
+        stage false h = cc
+
+-- a waiting read has a number in range
+waiting-small : (reads : Reads) (places : BTreeSet (ℕ × ℕ)) → IsTable reads places → (id : ℕ) (r : ReadRequest) → waiting_at reads id ≡ Some r → id < 2 ^ 64
+waiting-small reads places t id r h = at (read_at reads id) refl h
+  where
+    at : (x : Option Read) → read_at reads id ≡ x → if_waiting x ≡ Some r → id < 2 ^ 64
+    at None e h = cc
+    at (Some x) e h = t.small id x e
+
+-- the numbers of the waiting reads near a range
+pub near-complete : (reads : Reads) (places : BTreeSet (ℕ × ℕ)) (left right : ℕ) (ids : List ℕ) → IsTable reads places
+  → ids ≡ map (λ (k : ℕ × ℕ). k.1) (keys_between place_cmp (Included (left, 0)) (Included (right, 18446744073709551615)) places)
+  → (id : ℕ) (r : ReadRequest) → waiting_at reads id ≡ Some r → left ≤ r.offset → r.offset ≤ right → list_any (λ n. n == id) ids ≡ true
+near-complete reads places left right ids t e id r h l u =
+  let small = waiting-small reads places t id r h in
+  let inside : range_contains place_cmp (Included (left, 0)) (Included (right, 18446744073709551615)) (r.offset, id) ≡ true = grind (arith, nat_tests) in
+  rw e (near-listed (range_contains place_cmp (Included (left, 0)) (Included (right, 18446744073709551615))) r.offset id inside places.keys (waiting-placed reads places t id r h))

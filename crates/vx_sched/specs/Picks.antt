@@ -6,7 +6,7 @@ use Rattle.std.specs.Ordering.{nat_cmp}
 use Rattle.vx_base.specs.Aligned.{align_down}
 use Rattle.vx_sched.specs.Span.{end_of}
 use Rattle.vx_sched.specs.Reads.{Reads, waiting_at}
-use Rattle.vx_sched.specs.Merging.{HasNoWideGap, IsTooLong, first_offset, greatest_end, is_in_order, is_listed}
+use Rattle.vx_sched.specs.Merging.{HasNoWideGap, IsNear, IsTooLong, first_offset, greatest_end, is_in_order, is_listed}
 use Rattle.vx_sched.specs.declared.request.ReadRequest.{ReadRequest}
 use Rattle.vx_sched.specs.declared.gather.Picks.{Picks}
 use Rattle.vx_sched.specs.declared.gather.Rules.{Rules}
@@ -22,6 +22,7 @@ pub record IsPicked (rules : Rules) (reads : Reads) (before : BTreeSet ℕ) (pic
   pub listed : (id : ℕ) → contains nat_cmp picks.ids id ≡ is_listed picks.reads.items id
   pub low : picks.low ≡ first_offset picks.reads.items
   pub high : picks.high ≡ greatest_end picks.reads.items
+  pub forward : picks.low ≤ picks.high
   pub some : 1 ≤ length picks.reads.items
   pub gaps : HasNoWideGap rules.distance picks.reads.items
   pub limit : 1 < length picks.reads.items → picks.high - align_down rules.alignment picks.low ≤ rules.limit
@@ -38,3 +39,8 @@ pub record PickedMore (old new : Picks) : Type 0 where
 abbrev pub IsLookedAt : Rules → Reads → BTreeSet ℕ → ℕ → ℕ → Picks → ℕ → Type 0
 IsLookedAt rules reads before left right picks id = (r : ReadRequest) → free_at reads before id ≡ Some r → left ≤ r.offset → r.offset ≤ right
   → is_listed picks.reads.items id ≡ false → IsTooLong rules.limit rules.alignment picks.low picks.high r
+
+-- each free read that is near the picks was picked, or would make the span too long
+abbrev pub IsClosed : Rules → Reads → BTreeSet ℕ → Picks → Type 0
+IsClosed rules reads before picks = (r : ReadRequest) → free_at reads before r.id ≡ Some r → is_listed picks.reads.items r.id ≡ false
+  → IsNear rules.distance picks.low picks.high r → IsTooLong rules.limit rules.alignment picks.low picks.high r

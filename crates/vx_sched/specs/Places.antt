@@ -27,4 +27,5 @@ stays_waiting (Some stage) = is_waiting stage
 pub record IsTable (reads : Reads) (places : BTreeSet (ℕ × ℕ)) : Type 0 where
   pub tied : (offset id : ℕ) → contains place_cmp places (offset, id) ≡ waits_at offset (read_at reads id)
   pub keyed : (id : ℕ) (x : Read) → read_at reads id ≡ Some x → x.request.id ≡ id
+  pub small : (id : ℕ) (x : Read) → read_at reads id ≡ Some x → id < 2 ^ 64
   pub fits : (id : ℕ) (x : Read) → read_at reads id ≡ Some x → end_of x.request < 2 ^ 64

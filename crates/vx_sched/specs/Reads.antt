@@ -1,5 +1,5 @@
 -- The reads that a scheduler keeps, by number, and what happens to each.
-use Rattle.std.specs.Prelude.{ℕ, ◌+◌, ◌==◌, ◌&&◌, Bool, true, false, List, [], ◌∷◌, Option, Some, None, find, count_by}
+use Rattle.std.specs.Prelude.{ℕ, ◌+◌, ◌==◌, ◌&&◌, Bool, true, false, List, [], ◌∷◌, Option, Some, None, find, count_by, if◌then◌else◌}
 use Rattle.std.specs.Option.{option_map, option_and_then}
 use Rattle.std.specs.Map.{lookup, remove_entry}
 use Rattle.std.specs.BTreeMap.{insert_entry, is_at}
@@ -37,11 +37,7 @@ is_polled Resolved = false
 -- a read, where it waits
 abbrev pub if_waiting : Option Read → Option ReadRequest
 if_waiting None = None
-if_waiting (Some x) = if_stage (is_waiting x.stage) x.request
-  where
-    if_stage : Bool → ReadRequest → Option ReadRequest
-    if_stage true r = Some r
-    if_stage false r = None
+if_waiting (Some x) = if is_waiting x.stage then Some x.request else None
 
 -- the waiting read of a number
 abbrev pub waiting_at : Reads → ℕ → Option ReadRequest

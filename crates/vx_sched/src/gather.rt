@@ -8,6 +8,7 @@ ghost use Rattle.vx_sched.specs.Span.{end_of};
 ghost use Rattle.vx_sched.specs.Reads.{read_at, waiting_at};
 ghost use Rattle.vx_sched.specs.Merging.{is_before, is_listed, IsTooLong};
 ghost use Rattle.vx_sched.specs.Insert.{insert_read};
+ghost use Rattle.vx_sched.specs.Picks.{IsPicked, PickedMore, IsLookedAt, IsClosed, free_at};
 
 use crate::ReadRequest;
 use crate::table::Table;
@@ -64,8 +65,6 @@ fn is_too_long(rules: &Rules, low: u64, high: u64, read: &ReadRequest) -> bool
 }
 
 impl Picks {
-    ghost use Rattle.vx_sched.specs.Picks.{IsPicked, PickedMore, IsLookedAt, free_at};
-
     // The picks that begin with one read.
     fn first(alloc: Global, read: ReadRequest) -> Result<Picks, AllocError>
         requires { end_of read < 2 ^ 64 }
@@ -180,4 +179,52 @@ fn free_read(table: &Table, before: &BTreeSet<u64>, id: u64) -> Option<ReadReque
     } else {
         table.waiting(id)
     }
+}
+
+// Looks at all waiting reads near the picks once, in order.
+fn pass(
+    alloc: Global,
+    table: &Table,
+    before: &BTreeSet<u64>,
+    rules: &Rules,
+    picks: &mut Picks,
+) -> Result<(), AllocError>
+    requires { IsPicked rules.now table.now before.now picks.old }
+    ensures picked { OnOk result (IsPicked rules.now table.now before.now picks.new) }
+    ensures more { OnOk result (PickedMore picks.old picks.new) }
+    ensures closed { OnOk result (length picks.new.reads.items ≡ length picks.old.reads.items →
+        IsClosed rules.now table.now before.now picks.new) }
+{
+    let left = picks.low.saturating_sub(rules.distance);
+    let right = picks.high.saturating_add(rules.distance);
+    let ids = table.places_near(alloc, left, right)?;
+    for id in &ids {
+        picks.look(table, before, rules, left, right, *id)?;
+    }
+    Ok(())
+}
+
+// Gathers the reads of a span from one on, until none is near it that fits. Only memory refuses.
+pub fn gather(
+    alloc: Global,
+    table: &Table,
+    before: &BTreeSet<u64>,
+    rules: &Rules,
+    first: ReadRequest,
+) -> Result<Picks, AllocError>
+    requires free { free_at table.now before.now first.id ≡ Some first }
+    requires fits { end_of first < 2 ^ 64 }
+    ensures picked { IfOk result (λ p. IsPicked rules.now table.now before.now p) }
+    ensures closed { IfOk result (λ p. IsClosed rules.now table.now before.now p) }
+    ensures listed { IfOk result (λ p. is_listed p.reads.items first.id ≡ true) }
+{
+    let mut picks = Picks::first(alloc, first)?;
+    for _ in 0..u64::MAX {
+        let count = picks.reads.len();
+        pass(alloc, table, before, rules, &mut picks)?;
+        if picks.reads.len() == count {
+            return Ok(picks);
+        }
+    }
+    Err(AllocError)
 }

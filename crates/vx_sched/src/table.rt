@@ -1,7 +1,10 @@
 // The reads of a scheduler, by number, and the places of those that wait.
-ghost use Rattle.std.specs.Prelude.{◌≡◌, ℕ, ◌<◌, ◌^◌, [], None, Some, cond, true, false, ◌&&◌, not, IsSome, IfSome, OnOk, OnErr, option_map};
+ghost use Rattle.std.specs.Prelude.{◌≡◌, ℕ, ◌==◌, ◌<◌, ◌≤◌, map, IfOk, ◌^◌, [], None, Some, cond, true, false, ◌&&◌, not, IsSome, IfSome, OnOk, OnErr, option_map};
 ghost use Rattle.std.specs.BTreeMap.{insert_entry, is_at};
-ghost use Rattle.std.specs.BTreeSet.{contains};
+ghost use Rattle.std.specs.BTreeSet.{contains, keys_between};
+ghost use Rattle.std.specs.List.{list_any};
+ghost use Rattle.std.specs.declared.ops.Bound.TheVariants.{Included};
+ghost use Rattle.vx_sched.specs.declared.request.ReadRequest.{ReadRequest};
 ghost use Rattle.std.specs.Ordering.{nat_cmp};
 ghost use Rattle.vx_sched.specs.Span.{end_of};
 ghost use Rattle.vx_sched.specs.Reads.{read_at, waiting_at, changed, with_stage, is_waiting};
@@ -96,6 +99,24 @@ fn leave(places: &mut BTreeSet<(u64, u64)>, read: &Read, stage: Option<Stage>)
     }
 }
 
+// The numbers at the places whose offsets lie in bounds, in order.
+fn numbers_between(
+    alloc: Global,
+    places: &BTreeSet<(u64, u64)>,
+    left: u64,
+    right: u64,
+) -> Result<Vec<u64>, AllocError>
+    requires { left ≤ right }
+    ensures { IfOk result (λ ids. ids.items ≡ map (λ (k : ℕ × ℕ). k.1)
+        (keys_between place_cmp (Included (left, 0)) (Included (right, u64.MAX)) places.now)) }
+{
+    let mut ids = Vec::new(alloc);
+    for place in places.range((left, 0)..=(right, u64::MAX)) {
+        ids.push(place.1)?;
+    }
+    Ok(ids)
+}
+
 impl Table {
     pub fn new(alloc: Global) -> Table
         ensures { result ≡ [] }
@@ -124,6 +145,17 @@ impl Table {
         } else {
             None
         }
+    }
+
+    // The numbers of the waiting reads whose offsets lie in bounds, in order. Only memory refuses.
+    pub fn places_near(&self, alloc: Global, left: u64, right: u64) -> Result<Vec<u64>, AllocError>
+        requires { left ≤ right }
+        ensures complete { IfOk result (λ ids. (id : ℕ) (r : ReadRequest) → waiting_at self.now id ≡ Some r →
+            left ≤ r.offset → r.offset ≤ right → list_any (λ n. n == id) ids.items ≡ true) }
+        ensures fits { (id : ℕ) (r : ReadRequest) → waiting_at self.now id ≡ Some r → end_of r < 2 ^ 64 }
+    {
+        let ids = numbers_between(alloc, &self.places, left, right)?;
+        Ok(ids)
     }
 
     // Registers a read of a new number. Only memory refuses.
