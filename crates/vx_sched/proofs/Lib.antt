@@ -2,3 +2,5 @@ pub mod SpanLemmas
 pub mod TableLemmas
 pub mod InsertLemmas
 pub mod PickLemmas
+pub mod NextLemmas
+pub mod ReadsLemmas

@@ -67,19 +67,19 @@ after Resolve (InFlight span size true) = None
 after Resolve (InFlight span size false) = Some Resolved
 after Resolve Resolved = Some Resolved
 
--- the reads with a read in this stage, or without it
-abbrev pub with_stage : Reads → ReadRequest → Option Stage → Reads
-with_stage reads r (Some stage) = insert_entry nat_cmp reads r.id (record { request = r; stage = stage })
-with_stage reads r None = remove_entry (is_at (nat_cmp r.id)) reads
+-- the reads with the read of a number in this stage, or without it
+abbrev pub with_stage : Reads → ℕ → ReadRequest → Option Stage → Reads
+with_stage reads id r (Some stage) = insert_entry nat_cmp reads id (record { request = r; stage = stage })
+with_stage reads id r None = remove_entry (is_at (nat_cmp id)) reads
 
 -- the reads after a change of one that was looked up
-abbrev pub change_found : Change → Reads → Option Read → Reads
-change_found change reads None = reads
-change_found change reads (Some x) = with_stage reads x.request (after change x.stage)
+abbrev pub change_found : Change → Reads → ℕ → Option Read → Reads
+change_found change reads id None = reads
+change_found change reads id (Some x) = with_stage reads id x.request (after change x.stage)
 
 -- the reads after a change of the read of a number
 abbrev pub changed : Change → Reads → ℕ → Reads
-changed change reads id = change_found change reads (read_at reads id)
+changed change reads id = change_found change reads id (read_at reads id)
 
 -- the reads after a change of several
 abbrev pub all_changed : Change → Reads → List ReadRequest → Reads

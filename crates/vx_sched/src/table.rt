@@ -1,5 +1,5 @@
 // The reads of a scheduler, by number, and the places of those that wait.
-ghost use Rattle.std.specs.Prelude.{◌≡◌, ℕ, ◌==◌, ◌<◌, ◌≤◌, map, IfOk, ◌^◌, [], None, Some, cond, true, false, ◌&&◌, not, IsSome, IfSome, OnOk, OnErr, option_map};
+ghost use Rattle.std.specs.Prelude.{◌≡◌, ℕ, ◌==◌, ◌<◌, ◌≤◌, map, IfOk, ◌^◌, [], None, Some, cond, true, false, ◌&&◌, not, IsSome, IfSome, IfNone, OnOk, OnErr, option_map};
 ghost use Rattle.std.specs.BTreeMap.{insert_entry, is_at};
 ghost use Rattle.std.specs.BTreeSet.{contains, keys_between};
 ghost use Rattle.std.specs.List.{list_any};
@@ -7,8 +7,9 @@ ghost use Rattle.std.specs.declared.ops.Bound.TheVariants.{Included};
 ghost use Rattle.vx_sched.specs.declared.request.ReadRequest.{ReadRequest};
 ghost use Rattle.std.specs.Ordering.{nat_cmp};
 ghost use Rattle.vx_sched.specs.Span.{end_of};
-ghost use Rattle.vx_sched.specs.Reads.{read_at, waiting_at, changed, with_stage, is_waiting};
+ghost use Rattle.vx_sched.specs.Reads.{read_at, waiting_at, changed, with_stage, is_waiting, is_polled};
 ghost use Rattle.vx_sched.specs.Places.{place_cmp, stays_waiting};
+ghost use Rattle.vx_sched.specs.Scheduling.{polled_at};
 
 use crate::read::{Change, Read, Stage, stage_after};
 use crate::ReadRequest;
@@ -66,20 +67,20 @@ fn add(
     }
 }
 
-// Puts a read that is there in another stage, or takes it out.
-fn put(reads: &mut BTreeMap<u64, Read>, request: ReadRequest, stage: Option<Stage>)
-    requires { IsSome (read_at reads.old.entries request.id) }
-    ensures entries { reads.new.entries ≡ with_stage reads.old.entries request stage }
-    ensures lookups { (q : ℕ) → read_at reads.new.entries q ≡ cond (is_at (nat_cmp request.id) q)
+// Puts the read of a number, which is there, in another stage, or takes it out.
+fn put(reads: &mut BTreeMap<u64, Read>, id: u64, request: ReadRequest, stage: Option<Stage>)
+    requires { IsSome (read_at reads.old.entries id) }
+    ensures entries { reads.new.entries ≡ with_stage reads.old.entries id request stage }
+    ensures lookups { (q : ℕ) → read_at reads.new.entries q ≡ cond (is_at (nat_cmp id) q)
         (option_map (λ s. record { request = request; stage = s }) stage) (read_at reads.old.entries q) }
 {
     match stage {
-        Some(stage) => match reads.insert(request.id, Read { request, stage }) {
+        Some(stage) => match reads.insert(id, Read { request, stage }) {
             Ok(_) => {}
             Err(_) => unreachable!(),
         },
         None => {
-            reads.remove(&request.id);
+            reads.remove(&id);
         }
     }
 }
@@ -117,6 +118,35 @@ fn numbers_between(
     Ok(ids)
 }
 
+// Whether a read was polled and waits, and is not among some.
+fn is_next(id: u64, read: &Read, taken: &BTreeSet<u64>) -> bool
+    ensures { result ≡ (is_polled read.now.stage && not (contains nat_cmp taken.now id)) }
+{
+    read.stage.is_polled() && !taken.contains(&id)
+}
+
+// The polled read of least number, from a number on, that is not among some.
+fn first_polled(
+    reads: &BTreeMap<u64, Read>,
+    from: u64,
+    taken: &BTreeSet<u64>,
+) -> Option<(u64, ReadRequest)>
+    ensures found { IfSome result (λ p. read_at reads.now.entries p.0
+        ≡ Some (record { request = p.1; stage = Stage.Polled })) }
+    ensures fresh { IfSome result (λ p. contains nat_cmp taken.now p.0 ≡ false) }
+    ensures least { IfSome result (λ p. (q : ℕ) → from ≤ q → q < p.0 → polled_at reads.now.entries q ≡ true →
+        contains nat_cmp taken.now q ≡ true) }
+    ensures none { IfNone result ((q : ℕ) → from ≤ q → polled_at reads.now.entries q ≡ true →
+        contains nat_cmp taken.now q ≡ true) }
+{
+    for (id, read) in reads.range(from..) {
+        if is_next(*id, read, taken) {
+            return Some((*id, read.request));
+        }
+    }
+    None
+}
+
 impl Table {
     pub fn new(alloc: Global) -> Table
         ensures { result ≡ [] }
@@ -144,6 +174,22 @@ impl Table {
             Some(read.request)
         } else {
             None
+        }
+    }
+
+    // The polled read of least number, from a number on, that is not among some.
+    pub fn next_polled(&self, from: u64, taken: &BTreeSet<u64>) -> Option<ReadRequest>
+        ensures found { IfSome result (λ r. read_at self.now r.id ≡ Some (record { request = r; stage = Stage.Polled })) }
+        ensures fresh { IfSome result (λ r. contains nat_cmp taken.now r.id ≡ false) }
+        ensures fits { IfSome result (λ r. end_of r < 2 ^ 64) }
+        ensures least { IfSome result (λ r. (q : ℕ) → from ≤ q → q < r.id → polled_at self.now q ≡ true →
+            contains nat_cmp taken.now q ≡ true) }
+        ensures none { IfNone result ((q : ℕ) → from ≤ q → polled_at self.now q ≡ true →
+            contains nat_cmp taken.now q ≡ true) }
+    {
+        match first_polled(&self.reads, from, taken) {
+            Some((_, request)) => Some(request),
+            None => None,
         }
     }
 
@@ -177,7 +223,7 @@ impl Table {
     {
         if let Some(read) = self.read(id) {
             let stage = stage_after(change, read.stage);
-            put(&mut self.reads, read.request, stage);
+            put(&mut self.reads, id, read.request, stage);
             leave(&mut self.places, &read, stage);
         }
     }
