@@ -22,7 +22,7 @@ pub not_before-offset : (r s : ReadRequest) → is_before r s ≡ false → s.of
 not_before-offset r s h = grind (arith, nat_tests)
 
 -- both parts of a test
-and-true : (a b : Bool) → (a && b) ≡ true → (a ≡ true) × (b ≡ true)
+pub and-true : (a b : Bool) → (a && b) ≡ true → (a ≡ true) × (b ≡ true)
 and-true true b h = (refl, h)
 and-true false b h = cc
 
@@ -30,7 +30,7 @@ true-and : (a b : Bool) → a ≡ true → b ≡ true → (a && b) ≡ true
 true-and true b h k = k
 true-and false b h k = cc
 
-or-false : (a b : Bool) → (a || b) ≡ false → (a ≡ false) × (b ≡ false)
+pub or-false : (a b : Bool) → (a || b) ≡ false → (a ≡ false) × (b ≡ false)
 or-false true b h = cc
 or-false false b h = (refl, h)
 

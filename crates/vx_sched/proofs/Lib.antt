@@ -4,3 +4,4 @@ pub mod InsertLemmas
 pub mod PickLemmas
 pub mod NextLemmas
 pub mod ReadsLemmas
+pub mod BatchLemmas

@@ -18,7 +18,7 @@ use Rattle.vx_sched.specs.declared.request.ReadRequest.{ReadRequest}
 use Rattle.vx_sched.specs.declared.gather.Picks.{Picks}
 use Rattle.vx_sched.specs.declared.gather.Rules.{Rules}
 
-or-true : (a b : Bool) → a ≡ true → (a || b) ≡ true
+pub or-true : (a b : Bool) → a ≡ true → (a || b) ≡ true
 or-true true b h = refl
 or-true false b h = cc
 

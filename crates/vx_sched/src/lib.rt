@@ -2,6 +2,7 @@
 
 // The scheduler of a coalescing reader: reads are registered, polled, gathered into spans, and
 // resolved.
+mod batching;
 mod event;
 mod gather;
 mod io_request;

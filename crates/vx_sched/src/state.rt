@@ -1,13 +1,17 @@
 // The scheduler's state.
-ghost use Rattle.std.specs.Prelude.{◌≡◌, ℕ, ◌+◌, ◌<◌, ◌≤◌, [], true, option_map, None, Some, IsOk, OnOk, OnErr};
+ghost use Rattle.std.specs.Prelude.{◌≡◌, ℕ, ◌+◌, ◌<◌, ◌≤◌, ◌^◌, [], true, length, IfOk, option_map, None, Some, IsOk, OnOk, OnErr};
 ghost use Rattle.vx_sched.specs.Reads.{read_at, all_changed};
-ghost use Rattle.vx_sched.specs.Merging.{raised};
-ghost use Rattle.vx_sched.specs.Scheduling.{MayHappen, stepped, takes_no_memory, MayTake, taken, all_taken, resolved, in_flight};
+ghost use Rattle.vx_sched.specs.Span.{end_of};
+ghost use Rattle.vx_sched.specs.Merging.{raised, Merges};
+ghost use Rattle.vx_sched.specs.Picks.{free_at};
+ghost use Rattle.vx_sched.specs.Scheduling.{MayHappen, stepped, takes_no_memory, MayTake, MergesInTurn, NonePolled, taken, all_taken, resolved, in_flight};
 
+use crate::batching::{add_numbers, gathered, lone};
 use crate::read::Change;
 use crate::table::Table;
 use crate::{CoalescedRequest, ReadEvent, ReadRequest};
 use std::alloc::{AllocError, Global};
+use std::collections::BTreeSet;
 use std::marker::Model;
 use vx_base::{Alignment, CoalesceConfig};
 
@@ -82,6 +86,46 @@ impl State {
             ReadEvent::Dropped(id) => self.table.change(id, Change::Cancel),
         }
         Ok(())
+    }
+
+    // The span of the next read, from what earlier spans leave.
+    fn gather_from(
+        &self,
+        alloc: Global,
+        before: &BTreeSet<u64>,
+        first: ReadRequest,
+    ) -> Result<CoalescedRequest, AllocError>
+        requires free { free_at self.now.reads before.now first.id ≡ Some first }
+        requires fits { end_of first < 2 ^ 64 }
+        ensures { IfOk result (λ span. Merges self.now.window self.now.alignment (free_at self.now.reads before.now) first.id span) }
+    {
+        match self.gathering {
+            None => lone(alloc, first),
+            Some(window) => gathered(alloc, &self.table, before, window, self.aligned, first),
+        }
+    }
+
+    /// The spans that are to be asked next, at most so many, each of which merges from what the
+    /// earlier ones leave. There are fewer only where no polled read is left. Only memory refuses.
+    pub fn batch(&self, alloc: Global, most: usize) -> Result<Vec<CoalescedRequest>, AllocError>
+        ensures merge { IfOk result (λ spans. MergesInTurn self.now spans.items) }
+        ensures most { IfOk result (λ spans. length spans.items ≤ most) }
+        ensures all { IfOk result (λ spans. length spans.items < most → NonePolled (all_taken self.now spans.items).reads) }
+    {
+        let mut spans = Vec::new(alloc);
+        let mut before = BTreeSet::new(alloc);
+        let mut from = 0u64;
+        for _ in 0..most {
+            let Some(first) = self.table.next_polled(from, &before) else {
+                return Ok(spans);
+            };
+            let next = first.id;
+            let span = self.gather_from(alloc, &before, first)?;
+            add_numbers(&mut before, span.requests())?;
+            spans.push(span)?;
+            from = next;
+        }
+        Ok(spans)
     }
 
     // Puts the reads of a span in flight.
