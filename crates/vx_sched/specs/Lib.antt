@@ -1,3 +1,4 @@
+pub mod Counting
 pub mod Insert
 pub mod Io
 pub mod Merging

@@ -34,7 +34,7 @@ pub struct Picks {
 }
 
 // Whether one read is listed before another.
-fn comes_before(a: &ReadRequest, b: &ReadRequest) -> bool
+pub fn comes_before(a: &ReadRequest, b: &ReadRequest) -> bool
     ensures { result ≡ is_before a.now b.now }
 {
     a.offset < b.offset || (a.offset == b.offset && a.id < b.id)

@@ -119,7 +119,8 @@ impl CoalescedRequest {
 
     /// The reads that it serves, in order.
     pub fn requests(&self) -> &[ReadRequest]
-        ensures { result.now ≡ self.now.reads }
+        ensures value { result.now ≡ self.now.reads }
+        ensures within { AllWithin self.now.start self.now.end self.now.reads }
     {
         self.served.as_slice()
     }

@@ -1,15 +1,17 @@
 // The scheduler's state.
-ghost use Rattle.std.specs.Prelude.{◌≡◌, ℕ, ◌+◌, ◌<◌, ◌≤◌, ◌^◌, [], true, length, IfOk, option_map, None, Some, IsOk, OnOk, OnErr};
+ghost use Rattle.std.specs.Prelude.{◌≡◌, ℕ, ◌+◌, ◌<◌, ◌≤◌, ◌^◌, [], true, length, IfOk, IfSome, IfNone, option_map, None, Some, IsOk, OnOk, OnErr};
 ghost use Rattle.vx_sched.specs.Reads.{read_at, all_changed};
 ghost use Rattle.vx_sched.specs.Span.{end_of};
-ghost use Rattle.vx_sched.specs.Merging.{raised, Merges};
+ghost use Rattle.vx_sched.specs.Merging.{raised, Merges, span_of};
 ghost use Rattle.vx_sched.specs.Picks.{free_at};
-ghost use Rattle.vx_sched.specs.Scheduling.{MayHappen, stepped, takes_no_memory, MayTake, MergesInTurn, NonePolled, taken, all_taken, resolved, in_flight};
+ghost use Rattle.vx_sched.specs.Counting.{counts_of};
+ghost use Rattle.vx_sched.specs.Scheduling.{MayHappen, stepped, takes_no_memory, MayTake, MergesNow, MergesInTurn, ranges_in_flight, same_span, NonePolled, taken, all_taken, resolved, in_flight};
 
 use crate::batching::{add_numbers, gathered, lone};
+use crate::flying::{all_fly, greatest_end_of, is_ordered};
 use crate::read::Change;
 use crate::table::Table;
-use crate::{CoalescedRequest, ReadEvent, ReadRequest};
+use crate::{CoalescedRequest, Counts, ReadEvent, ReadRequest};
 use std::alloc::{AllocError, Global};
 use std::collections::BTreeSet;
 use std::marker::Model;
@@ -160,6 +162,67 @@ impl State {
         ensures { self.new ≡ resolved self.old range.now }
     {
         change_all(&mut self.table, Change::Resolve, range.requests());
+    }
+
+    /// The next span, taken: a batch of one. There is none exactly where no polled read waits. Only
+    /// memory refuses.
+    pub fn next(&mut self, alloc: Global) -> Result<Option<CoalescedRequest>, AllocError>
+        requires { ranges_in_flight self.old.reads < self.old.concurrency }
+        ensures merges { IfOk result (λ found. IfSome found (MergesNow self.old)) }
+        ensures taken { IfOk result (λ found. IfSome found (λ span. self.new ≡ taken self.old span)) }
+        ensures none { IfOk result (λ found. IfNone found (NonePolled self.old.reads)) }
+        ensures idle { IfOk result (λ found. IfNone found (self.new ≡ self.old)) }
+        ensures kept { OnErr result (self.new ≡ self.old) }
+    {
+        let mut batch = self.batch(alloc, 1)?;
+        match batch.pop() {
+            None => Ok(None),
+            Some(span) => {
+                self.take_one(&span);
+                Ok(Some(span))
+            }
+        }
+    }
+
+    /// Whether a span is in flight.
+    pub fn is_in_flight(&self, range: &CoalescedRequest) -> bool
+        ensures { result ≡ in_flight self.now range.now }
+    {
+        let reads = range.requests();
+        let Some(first) = reads.first() else {
+            return false;
+        };
+        is_ordered(reads) && all_fly(&self.table, first.id, reads.len(), reads) && self.has_range(range)
+    }
+
+    // Whether a span with reads has the range and the alignment that the settings give its reads.
+    fn has_range(&self, range: &CoalescedRequest) -> bool
+        requires { 1 ≤ length range.now.reads }
+        ensures { result ≡ same_span range.now (span_of self.now.window self.now.alignment range.now.reads) }
+    {
+        let reads = range.requests();
+        let place = range.range();
+        let exponent = range.alignment().exponent();
+        let first = reads[0];
+        match self.gathering {
+            None => {
+                place.start == first.offset
+                    && place.end == first.offset + first.length as u64
+                    && exponent == first.alignment.exponent()
+            }
+            Some(_) => {
+                place.start == self.aligned.down(first.offset)
+                    && place.end == greatest_end_of(&place, reads)
+                    && exponent == self.aligned.exponent()
+            }
+        }
+    }
+
+    /// How many reads there are in each state, and how many ranges are in flight.
+    pub fn counts(&self) -> Counts
+        ensures { result ≡ counts_of self.now.reads }
+    {
+        self.table.counts()
     }
 }
 

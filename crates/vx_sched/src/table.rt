@@ -10,7 +10,9 @@ ghost use Rattle.vx_sched.specs.Span.{end_of};
 ghost use Rattle.vx_sched.specs.Reads.{read_at, waiting_at, changed, with_stage, is_waiting, is_polled};
 ghost use Rattle.vx_sched.specs.Places.{place_cmp, stays_waiting};
 ghost use Rattle.vx_sched.specs.Scheduling.{polled_at};
+ghost use Rattle.vx_sched.specs.Counting.{counts_of};
 
+use crate::counts::{Counts, Kind, count_kind};
 use crate::read::{Change, Read, Stage, stage_after};
 use crate::ReadRequest;
 use std::alloc::{AllocError, Global};
@@ -202,6 +204,19 @@ impl Table {
     {
         let ids = numbers_between(alloc, &self.places, left, right)?;
         Ok(ids)
+    }
+
+    // How many reads there are of each kind.
+    pub fn counts(&self) -> Counts
+        ensures { result ≡ counts_of self.now }
+    {
+        Counts {
+            registered: count_kind(&self.reads, Kind::IsRegistered),
+            polled: count_kind(&self.reads, Kind::IsPolled),
+            in_flight: count_kind(&self.reads, Kind::IsFlying),
+            resolved: count_kind(&self.reads, Kind::IsResolved),
+            ranges: count_kind(&self.reads, Kind::Leads),
+        }
     }
 
     // Registers a read of a new number. Only memory refuses.
