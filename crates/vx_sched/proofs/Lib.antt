@@ -5,3 +5,4 @@ pub mod PickLemmas
 pub mod NextLemmas
 pub mod ReadsLemmas
 pub mod BatchLemmas
+pub mod AnswerLemmas

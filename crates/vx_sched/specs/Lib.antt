@@ -2,6 +2,7 @@ pub mod Counting
 pub mod Insert
 pub mod Io
 pub mod Merging
+pub mod Outcomes
 pub mod Picks
 pub mod Places
 pub mod Reads
