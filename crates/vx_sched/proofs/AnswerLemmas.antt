@@ -1,5 +1,5 @@
 -- What answers make of ranges.
-use Rattle.std.proofs.Common.{◌≡◌, ℕ, suc, ◌+◌, ◌<◌, ◌≤◌, ◌==◌, ◌&&◌, Bool, true, false, cond, not, List, [], ◌∷◌, ◌++◌, length, take, drop, find, position, remove, slice_index_or, slice_get, Option, Some, None, Ok, Err, Result, refl, ap, sym, ◌∙◌, subst, arith}
+use Rattle.std.proofs.Common.{◌≡◌, ℕ, suc, ◌+◌, ◌<◌, ◌≤◌, ◌==◌, Bool, true, false, cond, not, List, [], ◌∷◌, ◌++◌, length, take, drop, find, position, remove, slice_index_or, slice_get, Option, Some, None, Ok, Err, Result, refl, ap, sym, ◌∙◌, arith}
 use Rattle.std.proofs.lemmas.Grind.{common_steps}
 use Rattle.std.proofs.lemmas.Bool.Decides.{nat_tests}
 use Rattle.std.proofs.lemmas.List.Folds.{find_at}
@@ -7,12 +7,11 @@ use Rattle.std.proofs.lemmas.Option.{slice_get_read, slice_get_past}
 use Rattle.std.proofs.Math.Numerals.{one-add}
 use Rattle.std.specs.List.{position_or_len, AllByRecursion}
 use Rattle.vx_base.specs.Buffer.{Buffer, bytes_at}
-use Rattle.vx_base.specs.Asking.{logged, names, same_range, without_first, without_answer, answer_to, mark_of, mark_of_answer, mark_of_result, IsTrueTo}
+use Rattle.vx_base.specs.Asking.{logged, names, without_first, without_answer, answer_to, mark_of_answer, mark_of_result, IsTrueTo}
 use Rattle.vx_base.specs.declared.answer.ReadAtRequest.{ReadAtRequest}
 use Rattle.vx_base.specs.declared.answer.RangeAnswer.{RangeAnswer}
 use Rattle.vx_base.specs.declared.fault.Failed.{Failed}
 use Rattle.vx_sched.specs.Outcomes.{outcome_of, outcome_of_result, outcomes_of, mark_of_outcome, log_of, IsOutcomeOf, AreOutcomesOf, HasBytesOf, HaveBytesOf}
-use Rattle.vx_sched.specs.declared.fault.Outcome.{Outcome}
 
 -- the list without the first that passes is the list with the first place removed
 pub without_first-at : {X : Type 0} (p : X → Bool) (xs : List X) → without_first p xs ≡ take (position_or_len p xs) xs ++ drop (suc (position_or_len p xs)) xs
@@ -60,6 +59,7 @@ mark-outcome r (Some a) = at a.result
     size : (b : Bool) (buffer : Buffer) → (length buffer.bytes == r.length) ≡ b → mark_of_outcome (outcome_of_result r (Ok buffer)) ≡ mark_of_result r.length (Ok buffer)
     size true buffer e = rw e refl
     size false buffer e = rw e refl
+
     at : (x : Result Buffer Failed) → mark_of_outcome (outcome_of_result r x) ≡ mark_of_result r.length x
     at (Ok buffer) = size (length buffer.bytes == r.length) buffer refl
     at (Err _) = refl
@@ -68,9 +68,9 @@ mark-outcome r (Some a) = at a.result
 pub log_of-outcomes : (asked : List ReadAtRequest) (answers : List RangeAnswer) → log_of asked (outcomes_of asked answers) ≡ logged asked answers
 log_of-outcomes [] answers = refl
 log_of-outcomes (r ∷ rest) answers =
-  let mark = mark-outcome r (answer_to r answers) in
-  let others = log_of-outcomes rest (without_answer r answers) in
-  cc (mark, others)
+    let mark = mark-outcome r (answer_to r answers) in
+    let others = log_of-outcomes rest (without_answer r answers) in
+    cc (mark, others)
 
 -- an outcome is that of its range
 outcome-is : (r : ReadAtRequest) (o : Option RangeAnswer) → IsOutcomeOf r (outcome_of r o)
@@ -80,6 +80,7 @@ outcome-is r (Some a) = at a.result
     size : (b : Bool) (buffer : Buffer) → (length buffer.bytes == r.length) ≡ b → IsOutcomeOf r (outcome_of_result r (Ok buffer))
     size true buffer e = let same : length buffer.bytes ≡ r.length = grind (arith, nat_tests) in rw e (same, refl)
     size false buffer e = rw e refl
+
     at : (x : Result Buffer Failed) → IsOutcomeOf r (outcome_of_result r x)
     at (Ok buffer) = size (length buffer.bytes == r.length) buffer refl
     at (Err _) = refl
@@ -94,12 +95,13 @@ outcome-bytes b r a n t = at a.result refl
   where
     size : (w : Bool) (buffer : Buffer) → (length buffer.bytes == r.length) ≡ w → a.result ≡ Ok buffer → HasBytesOf b r (outcome_of_result r (Ok buffer))
     size true buffer e h =
-      let same : length buffer.bytes ≡ r.length = grind (arith, nat_tests) in
-      let offset : a.request.offset ≡ r.offset = grind (arith, nat_tests) in
-      let size : a.request.length ≡ r.length = grind (arith, nat_tests) in
-      let held = t buffer h (same ∙ sym size) in
-      rw e (held ∙ ap (λ o. bytes_at b o a.request.length) offset ∙ ap (λ l. bytes_at b r.offset l) size)
+        let same : length buffer.bytes ≡ r.length = grind (arith, nat_tests) in
+        let offset : a.request.offset ≡ r.offset = grind (arith, nat_tests) in
+        let size : a.request.length ≡ r.length = grind (arith, nat_tests) in
+        let held = t buffer h (same ∙ sym size) in
+        rw e (held ∙ ap (λ o. bytes_at b o a.request.length) offset ∙ ap (λ l. bytes_at b r.offset l) size)
     size false buffer e h = rw e tt
+
     at : (x : Result Buffer Failed) → a.result ≡ x → HasBytesOf b r (outcome_of_result r x)
     at (Ok buffer) h = size (length buffer.bytes == r.length) buffer refl h
     at (Err _) h = tt

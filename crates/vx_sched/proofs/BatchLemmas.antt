@@ -1,6 +1,5 @@
 -- The spans of a batch.
-use Rattle.std.proofs.Common.{◌≡◌, ℕ, ◌+◌, ◌-◌, ◌<◌, ◌≤◌, ◌==◌, ◌||◌, ◌%◌, ◌^◌, max, Bool, true, false, cond, List, [], ◌∷◌, ◌++◌, length, Option, Some, None, refl, ap, sym, ◌∙◌, subst, arith, append_assoc}
-use Rattle.std.proofs.lemmas.Bool.Decides.{nat_tests}
+use Rattle.std.proofs.Common.{◌≡◌, ℕ, ◌<◌, ◌≤◌, ◌||◌, max, Bool, true, false, cond, List, [], ◌∷◌, ◌++◌, length, Option, Some, None, refl, ap, sym, ◌∙◌, subst, arith, append_assoc}
 use Rattle.std.proofs.lemmas.Bool.{cases_lt}
 use Rattle.std.proofs.lemmas.List.{append-nil}
 use Rattle.std.proofs.Math.Logic.{⊎_elim}
@@ -8,19 +7,16 @@ use Rattle.std.specs.List.{AllByRecursion, list_any}
 use Rattle.std.specs.BTreeMap.{is_at}
 use Rattle.std.specs.BTreeSet.{BTreeSet, contains}
 use Rattle.std.specs.Ordering.{nat_cmp}
-use Rattle.vx_base.specs.Aligned.{align_down}
 use Rattle.vx_base.specs.declared.segment.CoalesceConfig.{CoalesceConfig}
-use Rattle.vx_sched.specs.Span.{Span, end_of, IsWithin, AllWithin}
-use Rattle.vx_sched.specs.Reads.{Reads, read_at, waiting_at, if_waiting, is_waiting, is_polled, all_changed}
-use Rattle.vx_sched.specs.Merging.{Merges, IsGathered, GathersIn, is_listed, is_in_order, is_in_order_after, is_before, first_offset, first_number, greatest_end, span_of, IsNear, IsTooLong}
-use Rattle.vx_sched.specs.Picks.{IsPicked, IsClosed, free_at}
+use Rattle.vx_sched.specs.Span.{Span, end_of, AllWithin}
+use Rattle.vx_sched.specs.Reads.{read_at, waiting_at, if_waiting, is_waiting, is_polled}
+use Rattle.vx_sched.specs.Merging.{Merges, GathersIn, is_listed, is_in_order, is_in_order_after, is_before, first_offset, first_number, greatest_end}
+use Rattle.vx_sched.specs.Picks.{free_at}
 use Rattle.vx_sched.specs.Scheduling.{Scheduler, polled_at, if_polled, IsNext, NonePolled, taken, all_taken, MergesNow, MergesInTurn}
 use Rattle.vx_sched.specs.declared.request.ReadRequest.{ReadRequest}
 use Rattle.vx_sched.specs.declared.read.Read.{Read}
 use Rattle.vx_sched.specs.declared.read.Stage.{Stage}
 use Rattle.vx_sched.specs.declared.read.Stage.TheVariants.{Registered, Polled, InFlight, Resolved}
-use Rattle.vx_sched.specs.declared.gather.Picks.{Picks}
-use Rattle.vx_sched.specs.declared.gather.Rules.{Rules}
 use Rattle.vx_sched.proofs.InsertLemmas.{before-offset, and-true, or-false}
 use Rattle.vx_sched.proofs.PickLemmas.{or-true}
 use Rattle.vx_sched.specs.declared.read.Change.TheVariants.{Take}
@@ -31,38 +27,40 @@ use Rattle.vx_sched.proofs.ReadsLemmas.{all-taken as taken-wait}
 within-more : (low m n : ℕ) (reads : List ReadRequest) → m ≤ n → AllWithin low m reads → AllWithin low n reads
 within-more low m n [] h w = tt
 within-more low m n (r ∷ rest) h w =
-  let f = w.0.from in
-  let u = w.0.upto in
-  (record { from = f; upto = omega arith }, within-more low m n rest h w.1)
+    let f = w.0.from in
+    let u = w.0.upto in
+    (record { from = f; upto = omega arith }, within-more low m n rest h w.1)
 
 -- reads in order begin at or after the first
 within-after : (low : ℕ) (r : ReadRequest) (rest : List ReadRequest) → low ≤ r.offset → is_in_order_after r rest ≡ true → AllWithin low (greatest_end rest) rest
 within-after low r [] l o = tt
 within-after low r (s ∷ rest) l o =
-  let parts = and-true (is_before r s) (is_in_order_after s rest) o in
-  let past = before-offset r s parts.0 in
-  let from : low ≤ s.offset = omega arith in
-  (record { from = from; upto = omega arith }, within-more low (greatest_end rest) (max (end_of s) (greatest_end rest)) rest (omega arith) (within-after low s rest from parts.1))
+    let parts = and-true (is_before r s) (is_in_order_after s rest) o in
+    let past = before-offset r s parts.0 in
+    let from : low ≤ s.offset = omega arith in
+    (record { from = from; upto = omega arith }, within-more low (greatest_end rest) (max (end_of s) (greatest_end rest)) rest (omega arith) (within-after low s rest from parts.1))
 
 -- reads in order lie in their range
 pub within-range : (low : ℕ) (reads : List ReadRequest) → is_in_order reads ≡ true → low ≤ first_offset reads → AllWithin low (greatest_end reads) reads
 within-range low [] o l = tt
 within-range low (r ∷ rest) o l =
-  (record { from = l; upto = omega arith }, within-more low (greatest_end rest) (max (end_of r) (greatest_end rest)) rest (omega arith) (within-after low r rest l o))
+    (record { from = l; upto = omega arith }, within-more low (greatest_end rest) (max (end_of r) (greatest_end rest)) rest (omega arith) (within-after low r rest l o))
 
 -- a waiting test over two look-ups that agree
 pub merges-along : (window : Option CoalesceConfig) (alignment : ℕ) (f g : ℕ → Option ReadRequest) (next : ℕ) (span : Span)
-  → ((q : ℕ) → f q ≡ g q) → Merges window alignment f next span → Merges window alignment g next span
+    → ((q : ℕ) → f q ≡ g q) → Merges window alignment f next span → Merges window alignment g next span
 merges-along window alignment f g next span same m = record {
   waits = all span.reads m.waits;
   order = m.order;
   serves = m.serves;
   gathers = gathers window m.gathers;
-  range = m.range }
+  range = m.range;
+}
   where
     all : (reads : List ReadRequest) → AllByRecursion (λ r. f r.id ≡ Some r) reads → AllByRecursion (λ r. g r.id ≡ Some r) reads
     all [] h = tt
     all (r ∷ rest) h = (sym (same r.id) ∙ h.0, all rest h.1)
+
     gathers : (w : Option CoalesceConfig) → GathersIn w alignment f span.reads → GathersIn w alignment g span.reads
     gathers None h = h
     gathers (Some c) h = record { gaps = h.gaps; limit = h.limit; closure = λ r w u n. h.closure r (same r.id ∙ w) u n }
@@ -100,7 +98,8 @@ so_far-start s before e = record {
   gone = λ q h. cc (sym h ∙ ap (λ ks. list_any (is_at (nat_cmp q)) ks) e);
   past = λ q h p. absurd (omega arith);
   window = refl;
-  alignment = refl }
+  alignment = refl;
+}
 
 module _ (s : Scheduler) (spans : List Span) (before : BTreeSet ℕ) (from : ℕ) (f : SoFar s spans before from) where
   -- no polled read is left
@@ -121,12 +120,11 @@ module _ (s : Scheduler) (spans : List Span) (before : BTreeSet ℕ) (from : ℕ
       at false h = ap (λ b. cond b None (waiting_at s.reads q)) h ∙ sym (ap if_waiting (f.others q h))
 
   module _ (first : ReadRequest) (span : Span) (before' : BTreeSet ℕ)
-    (found : read_at s.reads first.id ≡ Some (record { request = first; stage = Polled }))
-    (fresh : contains nat_cmp before first.id ≡ false)
-    (least : (q : ℕ) → from ≤ q → q < first.id → polled_at s.reads q ≡ true → contains nat_cmp before q ≡ true)
-    (merges : Merges s.window s.alignment (free_at s.reads before) first.id span)
-    (numbers : (q : ℕ) → contains nat_cmp before' q ≡ (contains nat_cmp before q || is_listed span.reads q)) where
-
+      (found : read_at s.reads first.id ≡ Some (record { request = first; stage = Polled }))
+      (fresh : contains nat_cmp before first.id ≡ false)
+      (least : (q : ℕ) → from ≤ q → q < first.id → polled_at s.reads q ≡ true → contains nat_cmp before q ≡ true)
+      (merges : Merges s.window s.alignment (free_at s.reads before) first.id span)
+      (numbers : (q : ℕ) → contains nat_cmp before' q ≡ (contains nat_cmp before q || is_listed span.reads q)) where
     -- polled reads before the next are taken
     sooner : (q : ℕ) → q < first.id → polled_at s.reads q ≡ true → contains nat_cmp before q ≡ true
     sooner q l p = ⊎_elim (λ (b : q < from). f.past q b p) (λ (g : from ≤ q). least q g l p) (cases_lt q from)
@@ -135,7 +133,8 @@ module _ (s : Scheduler) (spans : List Span) (before : BTreeSet ℕ) (from : ℕ
     is-next : IsNext (all_taken s spans).reads first.id
     is-next = record {
       polled = ap if_polled (f.others first.id fresh ∙ found);
-      least = λ q l. at q l (contains nat_cmp before q) refl (polled_at s.reads q) refl }
+      least = λ q l. at q l (contains nat_cmp before q) refl (polled_at s.reads q) refl;
+    }
       where
         at : (q : ℕ) → q < first.id → (b : Bool) → contains nat_cmp before q ≡ b → (p : Bool) → polled_at s.reads q ≡ p → polled_at (all_taken s spans).reads q ≡ false
         at q l true h p e = polled-none (read_at (all_taken s spans).reads q) (f.gone q h)
@@ -147,7 +146,8 @@ module _ (s : Scheduler) (spans : List Span) (before : BTreeSet ℕ) (from : ℕ
     merges-now = record {
       next = first.id;
       is_next = is-next;
-      merges = rw (f.window, f.alignment) (merges-along s.window s.alignment (free_at s.reads before) (waiting_at (all_taken s spans).reads) first.id span free-waits merges) }
+      merges = rw (f.window, f.alignment) (merges-along s.window s.alignment (free_at s.reads before) (waiting_at (all_taken s spans).reads) first.id span free-waits merges);
+    }
 
     -- with one more span
     pub so_far-step : SoFar s (spans ++ span ∷ []) before' first.id
@@ -157,16 +157,18 @@ module _ (s : Scheduler) (spans : List Span) (before : BTreeSet ℕ) (from : ℕ
       gone = λ q h. gone q (is_listed span.reads q) refl (contains nat_cmp before q) refl (sym (numbers q) ∙ h);
       past = λ q l p. numbers q ∙ or-true (contains nat_cmp before q) (is_listed span.reads q) (sooner q l p);
       window = ap (λ (t : Scheduler). t.window) (all_taken-push s spans span) ∙ f.window;
-      alignment = ap (λ (t : Scheduler). t.alignment) (all_taken-push s spans span) ∙ f.alignment }
+      alignment = ap (λ (t : Scheduler). t.alignment) (all_taken-push s spans span) ∙ f.alignment;
+    }
       where
         others : (q : ℕ) → (contains nat_cmp before q ≡ false) × (is_listed span.reads q ≡ false) → read_at (all_taken s (spans ++ span ∷ [])).reads q ≡ read_at s.reads q
         others q h = ap (λ (t : Scheduler). read_at t.reads q) (all_taken-push s spans span)
-          ∙ all-other (Take (first_number span.reads) (length span.reads)) span.reads (all_taken s spans).reads q h.1 ∙ f.others q h.0
+            ∙ all-other (Take (first_number span.reads) (length span.reads)) span.reads (all_taken s spans).reads q h.1 ∙ f.others q h.0
+
         gone : (q : ℕ) (l : Bool) → is_listed span.reads q ≡ l → (b : Bool) → contains nat_cmp before q ≡ b → (contains nat_cmp before q || is_listed span.reads q) ≡ true → waiting_at (all_taken s (spans ++ span ∷ [])).reads q ≡ None
         gone q true e b c h = ap (λ (t : Scheduler). waiting_at t.reads q) (all_taken-push s spans span)
-          ∙ taken-wait (first_number span.reads) (length span.reads) span.reads (all_taken s spans).reads q e
+            ∙ taken-wait (first_number span.reads) (length span.reads) span.reads (all_taken s spans).reads q e
         gone q false e true c h = ap (λ (t : Scheduler). waiting_at t.reads q) (all_taken-push s spans span)
-          ∙ ap if_waiting (all-other (Take (first_number span.reads) (length span.reads)) span.reads (all_taken s spans).reads q e) ∙ f.gone q c
+            ∙ ap if_waiting (all-other (Take (first_number span.reads) (length span.reads)) span.reads (all_taken s spans).reads q e) ∙ f.gone q c
         gone q false e false c h = absurd (clash (contains nat_cmp before q) (is_listed span.reads q) c e h)
           where
             clash : (a b : Bool) → a ≡ false → b ≡ false → (a || b) ≡ true → ⊥

@@ -1,7 +1,7 @@
 -- A read put in its place among others.
-use Rattle.std.proofs.Common.{◌≡◌, ℕ, ◌+◌, ◌-◌, ◌<◌, ◌≤◌, ◌==◌, ◌&&◌, ◌||◌, nat_lt, min, max, Bool, true, false, cond, List, [], ◌∷◌, length, Option, Some, None, refl, ap, sym, ◌∙◌, subst, arith}
+use Rattle.std.proofs.Common.{◌≡◌, ℕ, ◌+◌, ◌≤◌, ◌==◌, ◌&&◌, ◌||◌, min, max, Bool, true, false, cond, List, [], ◌∷◌, length, refl, ap, ◌∙◌, arith}
 use Rattle.std.proofs.lemmas.Bool.Decides.{nat_tests}
-use Rattle.std.specs.List.{AllByRecursion, list_any}
+use Rattle.std.specs.List.{AllByRecursion}
 use Rattle.vx_sched.specs.Span.{end_of}
 use Rattle.vx_sched.specs.Merging.{is_before, is_in_order, is_in_order_after, is_listed, first_offset, greatest_end, GapsAfter, HasNoWideGap}
 use Rattle.vx_sched.specs.Insert.{insert_read}
@@ -38,12 +38,12 @@ or-false false b h = (refl, h)
 insert-order-after : (p r : ReadRequest) (reads : List ReadRequest) → is_before p r ≡ true → is_in_order_after p reads ≡ true → is_listed reads r.id ≡ false → is_in_order_after p (insert_read r reads) ≡ true
 insert-order-after p r [] h o l = true-and _ _ h refl
 insert-order-after p r (s ∷ rest) h o l =
-  let parts = and-true (is_before p s) (is_in_order_after s rest) o in
-  let apart = or-false (s.id == r.id) (is_listed rest r.id) l in
-  at (is_before r s) refl parts apart (λ (b : is_before s r ≡ true). insert-order-after s r rest b parts.1 apart.1)
+    let parts = and-true (is_before p s) (is_in_order_after s rest) o in
+    let apart = or-false (s.id == r.id) (is_listed rest r.id) l in
+    at (is_before r s) refl parts apart (λ (b : is_before s r ≡ true). insert-order-after s r rest b parts.1 apart.1)
   where
     at : (b : Bool) → is_before r s ≡ b → (is_before p s ≡ true) × (is_in_order_after s rest ≡ true) → ((s.id == r.id) ≡ false) × (is_listed rest r.id ≡ false)
-      → (is_before s r ≡ true → is_in_order_after s (insert_read r rest) ≡ true) → is_in_order_after p (cond b (r ∷ s ∷ rest) (s ∷ insert_read r rest)) ≡ true
+        → (is_before s r ≡ true → is_in_order_after s (insert_read r rest) ≡ true) → is_in_order_after p (cond b (r ∷ s ∷ rest) (s ∷ insert_read r rest)) ≡ true
     at true e parts apart step = true-and _ _ h (true-and _ _ e parts.1)
     at false e parts apart step = true-and _ _ parts.0 (step (before-total r s e (id-flip r s apart.0)))
 
@@ -51,8 +51,8 @@ insert-order-after p r (s ∷ rest) h o l =
 pub insert-order : (r : ReadRequest) (reads : List ReadRequest) → is_in_order reads ≡ true → is_listed reads r.id ≡ false → is_in_order (insert_read r reads) ≡ true
 insert-order r [] o l = refl
 insert-order r (s ∷ rest) o l =
-  let apart = or-false (s.id == r.id) (is_listed rest r.id) l in
-  at (is_before r s) refl apart
+    let apart = or-false (s.id == r.id) (is_listed rest r.id) l in
+    at (is_before r s) refl apart
   where
     at : (b : Bool) → is_before r s ≡ b → ((s.id == r.id) ≡ false) × (is_listed rest r.id ≡ false) → is_in_order (cond b (r ∷ s ∷ rest) (s ∷ insert_read r rest)) ≡ true
     at true e apart = true-and _ _ e o
@@ -128,13 +128,13 @@ gaps-more d m n (r ∷ rest) h g = (omega arith, gaps-more d (max m (end_of r)) 
 insert-gaps-after : (d reach : ℕ) (r : ReadRequest) (reads : List ReadRequest) → GapsAfter d reach reads → r.offset ≤ max reach (greatest_end reads) + d → GapsAfter d reach (insert_read r reads)
 insert-gaps-after d reach r [] g h = (omega arith, tt)
 insert-gaps-after d reach r (s ∷ rest) g h =
-  at (is_before r s) refl (insert-gaps-after d (max reach (end_of s)) r rest g.1 (omega arith))
+    at (is_before r s) refl (insert-gaps-after d (max reach (end_of s)) r rest g.1 (omega arith))
   where
     at : (b : Bool) → is_before r s ≡ b → GapsAfter d (max reach (end_of s)) (insert_read r rest) → GapsAfter d reach (cond b (r ∷ s ∷ rest) (s ∷ insert_read r rest))
     at true e step =
-      let f = before-offset r s e in
-      let near = g.0 in
-      (omega arith, (omega arith, gaps-more d (max reach (end_of s)) (max (max reach (end_of r)) (end_of s)) rest (omega arith) g.1))
+        let f = before-offset r s e in
+        let near = g.0 in
+        (omega arith, (omega arith, gaps-more d (max reach (end_of s)) (max (max reach (end_of r)) (end_of s)) rest (omega arith) g.1))
     at false e step = (g.0, step)
 
 -- gaps stay, where the read begins near the range

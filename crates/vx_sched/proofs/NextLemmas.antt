@@ -1,5 +1,5 @@
 -- The polled read of least number.
-use Rattle.std.proofs.Common.{◌≡◌, ℕ, ◌<◌, ◌≤◌, ◌==◌, ◌&&◌, not, Bool, true, false, cond, nat_le, List, [], ◌∷◌, map, Option, Some, None, refl, ap, sym, ◌∙◌, subst, arith}
+use Rattle.std.proofs.Common.{◌≡◌, ℕ, ◌<◌, ◌≤◌, ◌&&◌, not, Bool, true, false, cond, nat_le, [], ◌∷◌, Some, None, refl, ap, sym, ◌∙◌, subst, arith}
 use Rattle.std.proofs.lemmas.Bool.Decides.{nat_tests}
 use Rattle.std.proofs.lemmas.Map.{lookup-none}
 use Rattle.std.proofs.lemmas.Map.Entries.{none_below_head, lookup-filter-keys}
@@ -20,7 +20,6 @@ use Rattle.vx_sched.specs.Scheduling.{polled_at, if_polled}
 use Rattle.vx_sched.specs.declared.read.Read.{Read}
 use Rattle.vx_sched.specs.declared.read.Stage.{Stage}
 use Rattle.vx_sched.specs.declared.read.Stage.TheVariants.{Registered, Polled, InFlight, Resolved}
-use Rattle.vx_sched.proofs.TableLemmas.{at-eq}
 
 -- the entries that are still to be looked at
 pub record Left (reads : Reads) (taken : BTreeSet ℕ) (from : ℕ) (rest : Reads) : Type 0 where
@@ -42,10 +41,12 @@ pub left-start : (reads : Reads) (taken : BTreeSet ℕ) (from : ℕ) → IsStric
 left-start reads taken from s = record {
   sound = λ q x h. sound q (nat_le from q) refl x h;
   complete = λ q l _ _. looked q true (grind (arith, nat_tests));
-  sorted = rw (keys-filter (range_contains nat_cmp (Included from) Unbounded) reads) (IsStrictlySortedBy-filter nat_cmp (range_contains nat_cmp (Included from) Unbounded) (keys_of reads) s) }
+  sorted = rw (keys-filter (range_contains nat_cmp (Included from) Unbounded) reads) (IsStrictlySortedBy-filter nat_cmp (range_contains nat_cmp (Included from) Unbounded) (keys_of reads) s);
+}
   where
     looked : (q : ℕ) (b : Bool) → nat_le from q ≡ b → read_at (entries_between nat_cmp (Included from) Unbounded reads) q ≡ cond b (read_at reads q) None
     looked q b e = lookup-filter-keys (is_at (nat_cmp q)) (range_contains nat_cmp (Included from) Unbounded) b (λ k h. grind (arith, nat_tests)) reads
+
     sound : (q : ℕ) (b : Bool) → nat_le from q ≡ b → (x : Read) → read_at (entries_between nat_cmp (Included from) Unbounded reads) q ≡ Some x → read_at reads q ≡ Some x
     sound q true e x h = sym (looked q true e) ∙ h
     sound q false e x h = cc (sym (looked q false e) ∙ h)
@@ -57,23 +58,26 @@ above-none id (e ∷ rest) h = rw (ap is_eq h.0) (above-none id rest h.1)
 
 -- one entry that is not taken up
 pub left-step : (reads : Reads) (taken : BTreeSet ℕ) (from : ℕ) (e : ℕ × Read) (rest : Reads) → Left reads taken from (e ∷ rest)
-  → (is_polled e.1.stage && not (contains nat_cmp taken e.0)) ≡ false → Left reads taken from rest
+    → (is_polled e.1.stage && not (contains nat_cmp taken e.0)) ≡ false → Left reads taken from rest
 left-step reads taken from e rest l skip = record {
   sound = λ q x h. sound q (is_at (nat_cmp q) e.0) refl x h;
   complete = λ q f p t. complete q (is_at (nat_cmp q) e.0) refl f p t;
-  sorted = sorted_tail nat_cmp e.0 (keys_of rest) l.sorted }
+  sorted = sorted_tail nat_cmp e.0 (keys_of rest) l.sorted;
+}
   where
     same : (q : ℕ) → is_at (nat_cmp q) e.0 ≡ true → q ≡ e.0
     same q h = grind (arith, nat_tests)
+
     sound : (q : ℕ) (b : Bool) → is_at (nat_cmp q) e.0 ≡ b → (x : Read) → read_at rest q ≡ Some x → read_at reads q ≡ Some x
-    sound q true h x k = cc (subst (λ n. read_at rest n ≡ None) (sym (same q h)) (above-none e.0 rest (sorted_head nat_cmp e.0 (keys_of rest) l.sorted)) , k)
+    sound q true h x k = cc (subst (λ n. read_at rest n ≡ None) (sym (same q h)) (above-none e.0 rest (sorted_head nat_cmp e.0 (keys_of rest) l.sorted)), k)
     sound q false h x k = l.sound q x (ap (λ b. cond b (Some e.1) (read_at rest q)) h ∙ k)
+
     complete : (q : ℕ) (b : Bool) → is_at (nat_cmp q) e.0 ≡ b → from ≤ q → polled_at reads q ≡ true → contains nat_cmp taken q ≡ false → read_at rest q ≡ read_at reads q
     complete q true h f p t =
-      let here : read_at reads q ≡ Some e.1 = sym (l.complete q f p t) ∙ ap (λ b. cond b (Some e.1) (read_at rest q)) h in
-      let polled : is_polled e.1.stage ≡ true = sym (ap if_polled here) ∙ p in
-      let fresh : contains nat_cmp taken e.0 ≡ false = subst (λ n. contains nat_cmp taken n ≡ false) (same q h) t in
-      absurd (clash (is_polled e.1.stage) (contains nat_cmp taken e.0) polled fresh skip)
+        let here : read_at reads q ≡ Some e.1 = sym (l.complete q f p t) ∙ ap (λ b. cond b (Some e.1) (read_at rest q)) h in
+        let polled : is_polled e.1.stage ≡ true = sym (ap if_polled here) ∙ p in
+        let fresh : contains nat_cmp taken e.0 ≡ false = subst (λ n. contains nat_cmp taken n ≡ false) (same q h) t in
+        absurd (clash (is_polled e.1.stage) (contains nat_cmp taken e.0) polled fresh skip)
       where
         clash : (a b : Bool) → a ≡ true → b ≡ false → (a && not b) ≡ false → ⊥
         clash true false x y z = cc
@@ -96,22 +100,22 @@ next-polled false b h = cc
 
 -- the entry that is taken up is among the reads
 pub left-found : (reads : Reads) (taken : BTreeSet ℕ) (from : ℕ) (e : ℕ × Read) (rest : Reads) → Left reads taken from (e ∷ rest) → is_polled e.1.stage ≡ true
-  → read_at reads e.0 ≡ Some (record { request = e.1.request; stage = Polled })
+    → read_at reads e.0 ≡ Some (record { request = e.1.request; stage = Polled })
 left-found reads taken from e rest l p =
-  let self : is_at (nat_cmp e.0) e.0 ≡ true = grind (arith, nat_tests) in
-  l.sound e.0 e.1 (ap (λ b. cond b (Some e.1) (read_at rest e.0)) self) ∙ ap (λ (s : Stage). Some (record { request = e.1.request; stage = s })) (polled-is e.1.stage p)
+    let self : is_at (nat_cmp e.0) e.0 ≡ true = grind (arith, nat_tests) in
+    l.sound e.0 e.1 (ap (λ b. cond b (Some e.1) (read_at rest e.0)) self) ∙ ap (λ (s : Stage). Some (record { request = e.1.request; stage = s })) (polled-is e.1.stage p)
 
 -- and no polled one before it is left
 pub left-least : (reads : Reads) (taken : BTreeSet ℕ) (from : ℕ) (e : ℕ × Read) (rest : Reads) → Left reads taken from (e ∷ rest)
-  → (q : ℕ) → from ≤ q → q < e.0 → polled_at reads q ≡ true → contains nat_cmp taken q ≡ true
+    → (q : ℕ) → from ≤ q → q < e.0 → polled_at reads q ≡ true → contains nat_cmp taken q ≡ true
 left-least reads taken from e rest l q f b p = at (contains nat_cmp taken q) refl
   where
     at : (t : Bool) → contains nat_cmp taken q ≡ t → contains nat_cmp taken q ≡ true
     at true h = h
     at false h =
-      let less : nat_cmp q e.0 ≡ Less = grind (arith, nat_tests) in
-      let none : read_at (e ∷ rest) q ≡ None = lookup-none (is_at (nat_cmp q)) (e ∷ rest) (none_below_head nat_cmp_total q e rest l.sorted less) in
-      cc (sym p ∙ ap if_polled (sym (l.complete q f p h) ∙ none))
+        let less : nat_cmp q e.0 ≡ Less = grind (arith, nat_tests) in
+        let none : read_at (e ∷ rest) q ≡ None = lookup-none (is_at (nat_cmp q)) (e ∷ rest) (none_below_head nat_cmp_total q e rest l.sorted less) in
+        cc (sym p ∙ ap if_polled (sym (l.complete q f p h) ∙ none))
 
 -- none is left
 pub left-none : (reads : Reads) (taken : BTreeSet ℕ) (from : ℕ) → Left reads taken from [] → (q : ℕ) → from ≤ q → polled_at reads q ≡ true → contains nat_cmp taken q ≡ true

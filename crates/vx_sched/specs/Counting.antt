@@ -48,4 +48,5 @@ counts_of reads = record {
   polled = count_of IsPolled reads;
   in_flight = count_of IsFlying reads;
   resolved = count_of IsResolved reads;
-  ranges = count_of Leads reads }
+  ranges = count_of Leads reads;
+}

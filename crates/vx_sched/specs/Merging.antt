@@ -64,15 +64,19 @@ abbrev pub span_of : Option CoalesceConfig → ℕ → List ReadRequest → Span
 span_of None alignment [] = record { start = 0; end = 0; alignment = alignment; reads = [] }
 span_of None alignment (r ∷ rest) = record { start = r.offset; end = end_of r; alignment = r.alignment; reads = r ∷ rest }
 span_of (Some c) alignment reads = record {
-  start = align_down alignment (first_offset reads); end = greatest_end reads; alignment = alignment; reads = reads }
+  start = align_down alignment (first_offset reads);
+  end = greatest_end reads;
+  alignment = alignment;
+  reads = reads;
+}
 
 -- reads that are gathered in a window, from those that wait
 pub record IsGathered (c : CoalesceConfig) (alignment : ℕ) (waiting : ℕ → Option ReadRequest) (reads : List ReadRequest) : Type 0 where
   pub gaps : HasNoWideGap c.distance reads
   pub limit : 1 < length reads → greatest_end reads - align_down alignment (first_offset reads) ≤ c.max_size
   pub closure : (r : ReadRequest) → waiting r.id ≡ Some r → is_listed reads r.id ≡ false
-    → IsNear c.distance (first_offset reads) (greatest_end reads) r
-    → IsTooLong c.max_size alignment (first_offset reads) (greatest_end reads) r
+      → IsNear c.distance (first_offset reads) (greatest_end reads) r
+      → IsTooLong c.max_size alignment (first_offset reads) (greatest_end reads) r
 
 -- reads that a window gathers, or one read without a window
 abbrev pub GathersIn : Option CoalesceConfig → ℕ → (ℕ → Option ReadRequest) → List ReadRequest → Type 0

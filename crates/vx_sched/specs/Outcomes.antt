@@ -7,7 +7,6 @@ use Rattle.vx_base.specs.declared.answer.RangeAnswer.{RangeAnswer}
 use Rattle.vx_base.specs.declared.fault.Failed.{Failed}
 use Rattle.vx_base.specs.declared.fault.FaultKind.{FaultKind}
 use Rattle.vx_base.specs.declared.fault.FaultKind.TheVariants.{ReadFault, ShortRead, MissingRange}
-use Rattle.vx_sched.specs.declared.fault.Place.{Place}
 use Rattle.vx_sched.specs.declared.fault.Place.TheVariants as place
 use Rattle.vx_sched.specs.declared.fault.Fault.{Fault}
 use Rattle.vx_sched.specs.declared.fault.Outcome.{Outcome}
@@ -20,7 +19,7 @@ range_fault kind range = record { kind = kind; place = place.Range range.offset 
 -- what a result makes of a range
 abbrev pub outcome_of_result : ReadAtRequest → Result Buffer Failed → Outcome
 outcome_of_result range (Ok buffer) =
-  if length buffer.bytes == range.length then out.Bytes (record buffer { alignment = range.alignment }) else out.Fault (range_fault ShortRead range)
+    if length buffer.bytes == range.length then out.Bytes (record buffer { alignment = range.alignment }) else out.Fault (range_fault ShortRead range)
 outcome_of_result range (Err _) = out.Fault (range_fault ReadFault range)
 
 -- what the answer to a range makes of it

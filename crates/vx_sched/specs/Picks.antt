@@ -1,10 +1,9 @@
 -- A span while it is gathered.
-use Rattle.std.specs.Prelude.{◌≡◌, ℕ, ◌+◌, ◌-◌, ◌<◌, ◌≤◌, ◌^◌, Bool, true, false, List, length, Option, Some, None, if◌then◌else◌}
+use Rattle.std.specs.Prelude.{◌≡◌, ℕ, ◌-◌, ◌<◌, ◌≤◌, true, false, length, Option, Some, None, if◌then◌else◌}
 use Rattle.std.specs.List.{AllByRecursion}
 use Rattle.std.specs.BTreeSet.{BTreeSet, contains}
 use Rattle.std.specs.Ordering.{nat_cmp}
 use Rattle.vx_base.specs.Aligned.{align_down}
-use Rattle.vx_sched.specs.Span.{end_of}
 use Rattle.vx_sched.specs.Reads.{Reads, waiting_at}
 use Rattle.vx_sched.specs.Merging.{HasNoWideGap, IsNear, IsTooLong, first_offset, greatest_end, is_in_order, is_listed}
 use Rattle.vx_sched.specs.declared.request.ReadRequest.{ReadRequest}
@@ -38,9 +37,9 @@ pub record PickedMore (old new : Picks) : Type 0 where
 -- a read of this number in these bounds was picked, or would make the span too long
 abbrev pub IsLookedAt : Rules → Reads → BTreeSet ℕ → ℕ → ℕ → Picks → ℕ → Type 0
 IsLookedAt rules reads before left right picks id = (r : ReadRequest) → free_at reads before id ≡ Some r → left ≤ r.offset → r.offset ≤ right
-  → is_listed picks.reads.items id ≡ false → IsTooLong rules.limit rules.alignment picks.low picks.high r
+    → is_listed picks.reads.items id ≡ false → IsTooLong rules.limit rules.alignment picks.low picks.high r
 
 -- each free read that is near the picks was picked, or would make the span too long
 abbrev pub IsClosed : Rules → Reads → BTreeSet ℕ → Picks → Type 0
 IsClosed rules reads before picks = (r : ReadRequest) → free_at reads before r.id ≡ Some r → is_listed picks.reads.items r.id ≡ false
-  → IsNear rules.distance picks.low picks.high r → IsTooLong rules.limit rules.alignment picks.low picks.high r
+    → IsNear rules.distance picks.low picks.high r → IsTooLong rules.limit rules.alignment picks.low picks.high r

@@ -1,11 +1,10 @@
 -- The places of waiting reads: their offsets and numbers.
-use Rattle.std.specs.Prelude.{◌≡◌, ℕ, ◌+◌, ◌<◌, ◌^◌, ◌==◌, ◌&&◌, Bool, true, false, List, Option, Some, None}
+use Rattle.std.specs.Prelude.{◌≡◌, ℕ, ◌<◌, ◌^◌, ◌==◌, ◌&&◌, Bool, false, Option, Some, None}
 use Rattle.std.specs.BTreeSet.{BTreeSet, contains}
 use Rattle.std.specs.Ordering.{nat_cmp, ordering_then}
 use Rattle.std.specs.declared.cmp.Ordering.{Ordering}
 use Rattle.vx_sched.specs.Span.{end_of}
 use Rattle.vx_sched.specs.Reads.{Reads, read_at, is_waiting}
-use Rattle.vx_sched.specs.declared.request.ReadRequest.{ReadRequest}
 use Rattle.vx_sched.specs.declared.read.Read.{Read}
 use Rattle.vx_sched.specs.declared.read.Stage.{Stage}
 

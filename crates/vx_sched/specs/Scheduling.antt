@@ -118,8 +118,8 @@ has_first (_ ∷ _) = true
 -- whether a span is in flight: its reads, in order and as many as were taken, and its range
 abbrev pub in_flight : Scheduler → Span → Bool
 in_flight s span = has_first span.reads && is_in_order span.reads
-  && list_all (λ r. is_flying (first_number span.reads) (length span.reads) r (read_at s.reads r.id)) span.reads
-  && same_span span (span_of s.window s.alignment span.reads)
+    && list_all (λ r. is_flying (first_number span.reads) (length span.reads) r (read_at s.reads r.id)) span.reads
+    && same_span span (span_of s.window s.alignment span.reads)
 
 -- what a caller may do
 abbrev pub MayHappen : Scheduler → ReadEvent → Type 0

@@ -1,5 +1,5 @@
 -- What contracts see of a span of reads.
-use Rattle.std.specs.Prelude.{ℕ, ◌+◌, ◌≤◌, nat_lt, List, [], ◌∷◌, Option, Some, None, if◌then◌else◌, max}
+use Rattle.std.specs.Prelude.{ℕ, ◌+◌, ◌≤◌, nat_lt, List, [], ◌∷◌, Option, Some, None, if◌then◌else◌}
 use Rattle.vx_sched.specs.declared.request.ReadRequest.{ReadRequest}
 use Rattle.vx_sched.specs.declared.span.RangeError.{RangeError}
 use Rattle.vx_sched.specs.declared.span.RangeError.TheVariants.{RangeReversed, Precedes, Exceeds}
@@ -29,9 +29,9 @@ AllWithin start end (r ∷ rest) = IsWithin start end r × AllWithin start end r
 abbrev pub outside : ℕ → ℕ → List ReadRequest → Option RangeError
 outside start end [] = None
 outside start end (r ∷ rest) =
-  if nat_lt r.offset start then Some Precedes
-  else if nat_lt end (end_of r) then Some Exceeds
-  else outside start end rest
+    if nat_lt r.offset start then Some Precedes
+    else if nat_lt end (end_of r) then Some Exceeds
+    else outside start end rest
 
 -- why a range cannot be a span of these reads, if it cannot
 abbrev pub range_error : ℕ → ℕ → List ReadRequest → Option RangeError

@@ -20,7 +20,9 @@ fn is_same(a: &ReadAtRequest, b: &ReadAtRequest) -> bool
 fn place_of(answers: &[RangeAnswer], range: &ReadAtRequest) -> Option<usize>
     ensures { result ≡ position (names range.now) answers.now }
 {
-    answers.iter().position(|answer| is_same(range, &answer.request))
+    answers
+        .iter()
+        .position(|answer| is_same(range, &answer.request))
 }
 
 // Takes the first answer that names a range.

@@ -16,8 +16,12 @@ use vx_base::{Alignment, CoalesceConfig};
 // The span of one read alone.
 pub fn lone(alloc: Global, first: ReadRequest) -> Result<CoalescedRequest, AllocError>
     requires { end_of first < 2 ^ 64 }
-    ensures { IfOk result (λ span. span ≡ record { start = first.offset; end = end_of first;
-        alignment = first.alignment; reads = first ∷ [] }) }
+    ensures { IfOk result (λ span. span ≡ record {
+      start = first.offset;
+      end = end_of first;
+      alignment = first.alignment;
+      reads = first ∷ [];
+    }) }
 {
     let start = first.offset;
     let end = start + first.length as u64;

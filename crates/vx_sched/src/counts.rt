@@ -34,7 +34,14 @@ fn is_kind(kind: Kind, id: u64, stage: &Stage) -> bool
         (Kind::IsPolled, Stage::Polled) => true,
         (Kind::IsFlying, Stage::InFlight { .. }) => true,
         (Kind::IsResolved, Stage::Resolved) => true,
-        (Kind::Leads, Stage::InFlight { span, size: _, dropped: _ }) => *span == id,
+        (
+            Kind::Leads,
+            Stage::InFlight {
+                span,
+                size: _,
+                dropped: _,
+            },
+        ) => *span == id,
         _ => false,
     }
 }

@@ -57,7 +57,11 @@ fn is_in_span(stage: &Stage, span: u64, size: usize) -> bool
     ensures { result ≡ flies_in span size stage.now }
 {
     match stage {
-        Stage::InFlight { span: other, size: count, dropped: _ } => *other == span && *count == size,
+        Stage::InFlight {
+            span: other,
+            size: count,
+            dropped: _,
+        } => *other == span && *count == size,
         _ => false,
     }
 }

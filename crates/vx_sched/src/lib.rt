@@ -16,6 +16,8 @@ mod request;
 mod span;
 mod state;
 mod table;
+#[cfg(test)]
+mod tests;
 
 pub use asking::{ask, ask_size};
 pub use counts::Counts;

@@ -10,7 +10,11 @@ use crate::ReadRequest;
 pub enum Stage {
     Registered,
     Polled,
-    InFlight { span: u64, size: usize, dropped: bool },
+    InFlight {
+        span: u64,
+        size: usize,
+        dropped: bool,
+    },
     Resolved,
 }
 
@@ -35,7 +39,14 @@ pub fn stage_after(change: Change, stage: Stage) -> Option<Stage>
 {
     match (change, stage) {
         (Change::Poll, Stage::Registered) => Some(Stage::Polled),
-        (Change::Cancel, Stage::InFlight { span, size, dropped: _ }) => Some(Stage::InFlight {
+        (
+            Change::Cancel,
+            Stage::InFlight {
+                span,
+                size,
+                dropped: _,
+            },
+        ) => Some(Stage::InFlight {
             span,
             size,
             dropped: true,
@@ -46,13 +57,14 @@ pub fn stage_after(change: Change, stage: Stage) -> Option<Stage>
             size,
             dropped: false,
         }),
-        (Change::Resolve, Stage::InFlight { span: _, size: _, dropped }) => {
-            if dropped {
-                None
-            } else {
-                Some(Stage::Resolved)
-            }
-        }
+        (
+            Change::Resolve,
+            Stage::InFlight {
+                span: _,
+                size: _,
+                dropped,
+            },
+        ) => { if dropped { None } else { Some(Stage::Resolved) } }
         _ => Some(stage),
     }
 }

@@ -68,8 +68,12 @@ impl CoalescedRequest {
         alignment: Alignment,
         requests: Vec<ReadRequest>,
     ) -> Result<CoalescedRequest, RangeError>
-        ensures ok { IfOk result (λ s. s ≡ record { start = range.start; end = range.end;
-            alignment = alignment; reads = requests.items }) }
+        ensures ok { IfOk result (λ s. s ≡ record {
+          start = range.start;
+          end = range.end;
+          alignment = alignment;
+          reads = requests.items;
+        }) }
         ensures taken { IfOk result (λ _. range_error range.start range.end requests.items ≡ None) }
         ensures refused { IfErr result (λ e. range_error range.start range.end requests.items ≡ Some e) }
     {
@@ -144,8 +148,10 @@ impl CoalescedRequest {
         requires whole { length buffer.now.bytes ≡ self.now.end - self.now.start }
         requires listed { index < length self.now.reads }
         ensures { IfOk result (λ b. (r : ReadRequest) → slice_get self.now.reads index ≡ Some r →
-            b ≡ record { bytes = bytes_at buffer.now.bytes (r.offset - self.now.start) r.length;
-                alignment = r.alignment }) }
+            b ≡ record {
+              bytes = bytes_at buffer.now.bytes (r.offset - self.now.start) r.length;
+              alignment = r.alignment;
+            }) }
     {
         let _whole = buffer.len();
         let read = self.served_at(index);

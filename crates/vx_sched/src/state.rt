@@ -59,8 +59,13 @@ impl State {
         concurrency: usize,
     ) -> State
         requires { 1 ≤ concurrency }
-        ensures { result ≡ record { window = option_map (raised alignment) window; alignment = alignment;
-            concurrency = concurrency; reads = []; next = 0 } }
+        ensures { result ≡ record {
+          window = option_map (raised alignment) window;
+          alignment = alignment;
+          concurrency = concurrency;
+          reads = [];
+          next = 0;
+        } }
     {
         State {
             gathering: raise(window, alignment),
@@ -192,7 +197,9 @@ impl State {
         let Some(first) = reads.first() else {
             return false;
         };
-        is_ordered(reads) && all_fly(&self.table, first.id, reads.len(), reads) && self.has_range(range)
+        is_ordered(reads)
+            && all_fly(&self.table, first.id, reads.len(), reads)
+            && self.has_range(range)
     }
 
     // Whether a span with reads has the range and the alignment that the settings give its reads.

@@ -12,9 +12,9 @@ ghost use Rattle.vx_sched.specs.Places.{place_cmp, stays_waiting};
 ghost use Rattle.vx_sched.specs.Scheduling.{polled_at};
 ghost use Rattle.vx_sched.specs.Counting.{counts_of};
 
+use crate::ReadRequest;
 use crate::counts::{Counts, Kind, count_kind};
 use crate::read::{Change, Read, Stage, stage_after};
-use crate::ReadRequest;
 use std::alloc::{AllocError, Global};
 use std::collections::{BTreeMap, BTreeSet};
 use std::marker::Model;
@@ -46,7 +46,7 @@ fn add(
         (record { request = request; stage = Stage.Registered })) }
     ensures lookups { OnOk result ((q : ℕ) → read_at reads.new.entries q
         ≡ cond (is_at (nat_cmp request.id) q) (Some (record { request = request; stage = Stage.Registered }))
-            (read_at reads.old.entries q)) }
+        (read_at reads.old.entries q)) }
     ensures places { OnOk result ((k : ℕ × ℕ) → contains place_cmp places.new k
         ≡ cond (is_at (place_cmp (request.offset, request.id)) k) true (contains place_cmp places.old k)) }
     ensures kept { OnErr result (reads.new.entries ≡ reads.old.entries) }

@@ -6,4 +6,5 @@ pub returns-in-Err-clause-memory : goal.returns-in-Err-clause-memory
 returns-in-Err-clause-memory g c = record {
   more = logged c.args.asked.now c.in_ok-answers.answers.items;
   asked = inr (ranges_of-logged c.args.asked.now c.in_ok-answers.answers.items);
-  grew = c.in_ok-answers.ensures.answered }
+  grew = c.in_ok-answers.ensures.answered;
+}

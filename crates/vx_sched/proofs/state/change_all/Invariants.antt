@@ -4,4 +4,4 @@ use Rattle.vx_sched.proofs.state.change_all.Given as goal
 
 abbrev pub invariant-loop-read : goal.invariant-loop-read
 invariant-loop-read l = (all_changed l.change l.table (drop l.read-index l.reads) ≡ all_changed l.change l.initial.table l.reads)
-  × ((q : ℕ) → read_at l.initial.table q ≡ None → read_at l.table q ≡ None)
+    × ((q : ℕ) → read_at l.initial.table q ≡ None → read_at l.table q ≡ None)

@@ -6,4 +6,4 @@ use Rattle.vx_sched.proofs.table.numbers_between.Given as goal
 
 abbrev pub invariant-loop-place : goal.invariant-loop-place
 invariant-loop-place l = l.ids.items ++ map (λ (k : ℕ × ℕ). k.1) l.place-iterator
-  ≡ map (λ (k : ℕ × ℕ). k.1) (keys_between place_cmp (Included (l.left, 0)) (Included (l.right, 18446744073709551615)) l.places)
+    ≡ map (λ (k : ℕ × ℕ). k.1) (keys_between place_cmp (Included (l.left, 0)) (Included (l.right, 18446744073709551615)) l.places)
