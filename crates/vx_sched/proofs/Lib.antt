@@ -6,3 +6,5 @@ pub mod NextLemmas
 pub mod ReadsLemmas
 pub mod BatchLemmas
 pub mod AnswerLemmas
+pub mod LawLemmas
+pub mod LawRuns

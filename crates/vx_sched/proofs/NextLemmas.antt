@@ -52,7 +52,7 @@ left-start reads taken from s = record {
     sound q false e x h = cc (sym (looked q false e) ∙ h)
 
 -- no entry past the first has its number
-above-none : (id : ℕ) (rest : Reads) → AllByRecursion (λ y. nat_cmp id y ≡ Less) (keys_of rest) → read_at rest id ≡ None
+pub above-none : (id : ℕ) (rest : Reads) → AllByRecursion (λ y. nat_cmp id y ≡ Less) (keys_of rest) → read_at rest id ≡ None
 above-none id [] h = refl
 above-none id (e ∷ rest) h = rw (ap is_eq h.0) (above-none id rest h.1)
 

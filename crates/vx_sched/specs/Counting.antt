@@ -1,5 +1,6 @@
 -- How many reads a scheduler has in each state.
 use Rattle.std.specs.Prelude.{ℕ, Bool, true, false, count_by}
+use Rattle.std.specs.Map.{values_of}
 use Rattle.vx_sched.specs.Reads.{Reads, is_polled}
 use Rattle.vx_sched.specs.Scheduling.{leads}
 use Rattle.vx_sched.specs.declared.counts.Counts.{Counts}
@@ -39,7 +40,7 @@ is_of Leads id stage = leads id stage
 
 -- how many reads are of a kind
 abbrev pub count_of : Kind → Reads → ℕ
-count_of kind reads = count_by (λ e. is_of kind e.0 e.1.stage) reads
+count_of kind reads = count_by (λ x. is_of kind x.request.id x.stage) (values_of reads)
 
 -- how many reads there are of each kind
 abbrev pub counts_of : Reads → Counts

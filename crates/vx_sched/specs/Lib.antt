@@ -1,6 +1,7 @@
 pub mod Counting
 pub mod Insert
 pub mod Io
+pub mod Law
 pub mod Merging
 pub mod Outcomes
 pub mod Picks

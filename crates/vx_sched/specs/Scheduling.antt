@@ -1,6 +1,7 @@
 -- A scheduler as its history makes it: each event is one step.
 use Rattle.std.specs.Prelude.{◌≡◌, ℕ, ◌+◌, ◌^◌, ◌<◌, ◌≤◌, ◌==◌, ◌&&◌, Bool, true, false, List, [], ◌∷◌, length, count_by, Option, Some, None}
 use Rattle.std.specs.List.{list_all}
+use Rattle.std.specs.Map.{values_of}
 use Rattle.std.specs.BTreeMap.{insert_entry}
 use Rattle.std.specs.Ordering.{nat_cmp}
 use Rattle.vx_base.specs.declared.segment.CoalesceConfig.{CoalesceConfig}
@@ -88,7 +89,7 @@ leads id Resolved = false
 
 -- how many ranges are in flight
 abbrev pub ranges_in_flight : Reads → ℕ
-ranges_in_flight reads = count_by (λ e. leads e.0 e.1.stage) reads
+ranges_in_flight reads = count_by (λ x. leads x.request.id x.stage) (values_of reads)
 
 -- whether two reads are one
 abbrev pub same_read : ReadRequest → ReadRequest → Bool

@@ -52,7 +52,8 @@ pub fn count_kind(reads: &BTreeMap<u64, Read>, kind: Kind) -> usize
 {
     let mut count = 0;
     for (id, read) in reads.iter() {
-        if is_kind(kind, *id, &read.stage) {
+        let _ = id;
+        if is_kind(kind, read.request.id, &read.stage) {
             count += 1;
         }
     }
