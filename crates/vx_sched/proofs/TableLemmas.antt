@@ -8,7 +8,9 @@ use Rattle.std.specs.BTreeMap.Range.{range_contains}
 use Rattle.std.specs.declared.ops.Bound.TheVariants.{Included}
 use Rattle.std.specs.Ordering.{nat_cmp}
 use Rattle.vx_sched.specs.Span.{end_of}
-use Rattle.vx_sched.specs.Reads.{Reads, read_at, waiting_at, if_waiting, is_waiting, after}
+use Rattle.vx_sched.specs.Reads.{Reads, read_at, waiting_at, if_waiting, is_waiting, is_polled, is_poll, after}
+use Rattle.vx_sched.specs.Scheduling.{polled_at, if_polled}
+use Rattle.std.specs.Option.{option_map_or}
 use Rattle.vx_sched.specs.Places.{place_cmp, waits_at, stays_waiting, IsTable}
 use Rattle.vx_sched.specs.declared.request.ReadRequest.{ReadRequest}
 use Rattle.vx_sched.specs.declared.read.Read.{Read}
@@ -241,3 +243,56 @@ near-complete reads places left right ids t e id r h l u =
     let small = waiting-small reads places t id r h in
     let inside : range_contains place_cmp (Included (left, 0)) (Included (right, 18446744073709551615)) (r.offset, id) ≡ true = grind (arith, nat_tests) in
     rw e (near-listed (range_contains place_cmp (Included (left, 0)) (Included (right, 18446744073709551615))) r.offset id inside places.keys (waiting-placed reads places t id r h))
+
+-- no change but a poll polls a read
+after-polled : (c : Change) (stage : Stage) → is_poll c ≡ false → is_polled stage ≡ false → (t : Stage) → after c stage ≡ Some t → is_polled t ≡ false
+after-polled Poll stage p h t e = cc
+after-polled Cancel Registered p h t e = cc
+after-polled Cancel Polled p h t e = cc
+after-polled Cancel (InFlight a b d) p h t e = subst (λ (o : Option Stage). option_map_or is_polled o false ≡ false) e refl
+after-polled Cancel Resolved p h t e = cc
+after-polled (Take x y) Registered p h t e = subst (λ (o : Option Stage). option_map_or is_polled o false ≡ false) e refl
+after-polled (Take x y) Polled p h t e = cc
+after-polled (Take x y) (InFlight a b d) p h t e = subst (λ (o : Option Stage). option_map_or is_polled o false ≡ false) e refl
+after-polled (Take x y) Resolved p h t e = subst (λ (o : Option Stage). option_map_or is_polled o false ≡ false) e refl
+after-polled Resolve Registered p h t e = subst (λ (o : Option Stage). option_map_or is_polled o false ≡ false) e refl
+after-polled Resolve Polled p h t e = cc
+after-polled Resolve (InFlight a b true) p h t e = cc
+after-polled Resolve (InFlight a b false) p h t e = subst (λ (o : Option Stage). option_map_or is_polled o false ≡ false) e refl
+after-polled Resolve Resolved p h t e = subst (λ (o : Option Stage). option_map_or is_polled o false ≡ false) e refl
+
+-- what is polled after a change was polled before
+pub idle-changed : (c : Change) (reads reads' : Reads) (id : ℕ) (x : Read) → is_poll c ≡ false → read_at reads id ≡ Some x
+    → ((q : ℕ) → read_at reads' q ≡ cond (is_at (nat_cmp id) q) (option_map (λ s. record { request = x.request; stage = s }) (after c x.stage)) (read_at reads q))
+    → (q : ℕ) → polled_at reads q ≡ false → polled_at reads' q ≡ false
+idle-changed c reads reads' id x p found lookups q h = at (id == q) refl
+  where
+    put : (t : Option Stage) → after c x.stage ≡ t → is_polled x.stage ≡ false → if_polled (option_map (λ s. record { request = x.request; stage = s }) t) ≡ false
+    put None e k = refl
+    put (Some t) e k = after-polled c x.stage p k t e
+
+    at : (b : Bool) → (id == q) ≡ b → polled_at reads' q ≡ false
+    at true e =
+        let same : id ≡ q = grind (arith, nat_tests) in
+        let here : read_at reads q ≡ Some x = subst (λ n. read_at reads n ≡ Some x) same found in
+        ap if_polled (lookups q ∙ ap (λ b. cond b (option_map (λ s. record { request = x.request; stage = s }) (after c x.stage)) (read_at reads q)) (at-eq id q ∙ e))
+        ∙ put (after c x.stage) refl (sym (ap if_polled here) ∙ h)
+    at false e =
+        ap if_polled (lookups q ∙ ap (λ b. cond b (option_map (λ s. record { request = x.request; stage = s }) (after c x.stage)) (read_at reads q)) (at-eq id q ∙ e)) ∙ h
+
+-- a change of one number leaves others
+pub others-changed : (c : Change) (reads reads' : Reads) (id : ℕ) (x : Read)
+    → ((q : ℕ) → read_at reads' q ≡ cond (is_at (nat_cmp id) q) (option_map (λ s. record { request = x.request; stage = s }) (after c x.stage)) (read_at reads q))
+    → (q : ℕ) → (id == q) ≡ false → read_at reads' q ≡ read_at reads q
+others-changed c reads reads' id x lookups q e =
+    lookups q ∙ ap (λ b. cond b (option_map (λ s. record { request = x.request; stage = s }) (after c x.stage)) (read_at reads q)) (at-eq id q ∙ e)
+
+-- a new read is not polled
+pub idle-added : (reads reads' : Reads) (r : ReadRequest)
+    → ((q : ℕ) → read_at reads' q ≡ cond (is_at (nat_cmp r.id) q) (Some (record { request = r; stage = Registered })) (read_at reads q))
+    → (q : ℕ) → polled_at reads q ≡ false → polled_at reads' q ≡ false
+idle-added reads reads' r lookups q h = at (is_at (nat_cmp r.id) q) (lookups q)
+  where
+    at : (b : Bool) → read_at reads' q ≡ cond b (Some (record { request = r; stage = Registered })) (read_at reads q) → polled_at reads' q ≡ false
+    at true e = ap if_polled e
+    at false e = ap if_polled e ∙ h

@@ -35,10 +35,14 @@ if_polled (Some x) = is_polled x.stage
 abbrev pub polled_at : Reads → ℕ → Bool
 polled_at reads id = if_polled (read_at reads id)
 
+-- no polled read waits whose number is below this
+abbrev pub NonePolledBelow : Reads → ℕ → Type 0
+NonePolledBelow reads from = (q : ℕ) → q < from → polled_at reads q ≡ false
+
 -- the polled read of least number
 pub record IsNext (reads : Reads) (id : ℕ) : Type 0 where
   pub polled : polled_at reads id ≡ true
-  pub least : (q : ℕ) → q < id → polled_at reads q ≡ false
+  pub least : NonePolledBelow reads id
 
 -- no polled read waits
 abbrev pub NonePolled : Reads → Type 0

@@ -7,7 +7,7 @@ ghost use Rattle.std.specs.declared.ops.Bound.TheVariants.{Included};
 ghost use Rattle.vx_sched.specs.declared.request.ReadRequest.{ReadRequest};
 ghost use Rattle.std.specs.Ordering.{nat_cmp};
 ghost use Rattle.vx_sched.specs.Span.{end_of};
-ghost use Rattle.vx_sched.specs.Reads.{read_at, waiting_at, changed, with_stage, is_waiting, is_polled};
+ghost use Rattle.vx_sched.specs.Reads.{read_at, waiting_at, changed, with_stage, is_waiting, is_polled, is_poll};
 ghost use Rattle.vx_sched.specs.Places.{place_cmp, stays_waiting};
 ghost use Rattle.vx_sched.specs.Scheduling.{polled_at};
 ghost use Rattle.vx_sched.specs.Counting.{counts_of};
@@ -226,6 +226,7 @@ impl Table {
         ensures registered { OnOk result (self.new ≡ insert_entry nat_cmp self.old request.id
             (record { request = request; stage = Stage.Registered })) }
         ensures others { OnOk result ((q : ℕ) → request.id < q → read_at self.new q ≡ read_at self.old q) }
+        ensures idle { OnOk result ((q : ℕ) → polled_at self.old q ≡ false → polled_at self.new q ≡ false) }
         ensures kept { OnErr result (self.new ≡ self.old) }
     {
         add(&mut self.reads, &mut self.places, request)
@@ -234,6 +235,8 @@ impl Table {
     // Changes the read of a number, if there is one.
     pub fn change(&mut self, id: u64, change: Change)
         ensures changed { self.new ≡ changed change self.old id }
+        ensures others { (q : ℕ) → (id == q) ≡ false → read_at self.new q ≡ read_at self.old q }
+        ensures idle { is_poll change ≡ false → (q : ℕ) → polled_at self.old q ≡ false → polled_at self.new q ≡ false }
         ensures none { (q : ℕ) → read_at self.old q ≡ None → read_at self.new q ≡ None }
     {
         if let Some(read) = self.read(id) {
