@@ -1,0 +1,206 @@
+-- The spans of a batch.
+use Rattle.std.proofs.Common.{◌≡◌, ℕ, ◌==◌, min, ◌<◌, ◌≤◌, ◌||◌, max, Bool, true, false, cond, List, [], ◌∷◌, ◌++◌, length, Option, Some, None, refl, ap, sym, ◌∙◌, subst, arith, append_assoc}
+use Rattle.std.proofs.lemmas.Bool.Decides.{nat_tests}
+use Rattle.std.proofs.lemmas.Bool.{cases_lt}
+use Rattle.std.proofs.lemmas.List.{append-nil}
+use Rattle.std.proofs.Math.Logic.{⊎_elim}
+use Rattle.std.specs.List.{AllByRecursion, list_any}
+use Rattle.std.specs.BTreeMap.{is_at}
+use Rattle.std.specs.BTreeSet.{BTreeSet, contains}
+use Rattle.std.specs.Ordering.{nat_cmp}
+use Rattle.vx_base.specs.declared.segment.CoalesceConfig.{CoalesceConfig}
+use Rattle.vx_sched.specs.Span.{Span, end_of, AllWithin}
+use Rattle.vx_sched.specs.Reads.{Reads, read_at, waiting_at, if_waiting, is_waiting, is_polled}
+use Rattle.vx_sched.specs.Merging.{Merges, GathersIn, is_listed, is_in_order, is_in_order_after, is_before, first_offset, first_number, greatest_end}
+use Rattle.vx_sched.specs.Picks.{free_at}
+use Rattle.vx_sched.specs.Scheduling.{Scheduler, polled_at, if_polled, IsNext, NonePolled, NonePolledBelow, taken, all_taken, MergesNow, MergesInTurn}
+use Rattle.vx_sched.specs.declared.request.ReadRequest.{ReadRequest}
+use Rattle.vx_sched.specs.declared.read.Read.{Read}
+use Rattle.vx_sched.specs.declared.read.Stage.{Stage}
+use Rattle.vx_sched.specs.declared.read.Stage.TheVariants.{Registered, Polled, InFlight, Resolved}
+use Rattle.vx_sched.proofs.InsertLemmas.{before-offset, and-true, or-false}
+use Rattle.vx_sched.proofs.PickLemmas.{or-true}
+use Rattle.vx_sched.specs.declared.read.Change.TheVariants.{Take}
+use Rattle.vx_sched.proofs.ReadsLemmas.{all-other}
+use Rattle.vx_sched.proofs.ReadsLemmas.{all-taken as taken-wait}
+
+-- reads within a range lie within a greater one
+within-more : (low m n : ℕ) (reads : List ReadRequest) → m ≤ n → AllWithin low m reads → AllWithin low n reads
+within-more low m n [] h w = tt
+within-more low m n (r ∷ rest) h w =
+    let f = w.0.from in
+    let u = w.0.upto in
+    (record { from = f; upto = omega arith }, within-more low m n rest h w.1)
+
+-- reads in order begin at or after the first
+within-after : (low : ℕ) (r : ReadRequest) (rest : List ReadRequest) → low ≤ r.offset → is_in_order_after r rest ≡ true → AllWithin low (greatest_end rest) rest
+within-after low r [] l o = tt
+within-after low r (s ∷ rest) l o =
+    let parts = and-true (is_before r s) (is_in_order_after s rest) o in
+    let past = before-offset r s parts.0 in
+    let from : low ≤ s.offset = omega arith in
+    (record { from = from; upto = omega arith }, within-more low (greatest_end rest) (max (end_of s) (greatest_end rest)) rest (omega arith) (within-after low s rest from parts.1))
+
+-- reads in order lie in their range
+pub within-range : (low : ℕ) (reads : List ReadRequest) → is_in_order reads ≡ true → low ≤ first_offset reads → AllWithin low (greatest_end reads) reads
+within-range low [] o l = tt
+within-range low (r ∷ rest) o l =
+    (record { from = l; upto = omega arith }, within-more low (greatest_end rest) (max (end_of r) (greatest_end rest)) rest (omega arith) (within-after low r rest l o))
+
+-- a waiting test over two look-ups that agree
+pub merges-along : (window : Option CoalesceConfig) (alignment : ℕ) (f g : ℕ → Option ReadRequest) (next : ℕ) (span : Span)
+    → ((q : ℕ) → f q ≡ g q) → Merges window alignment f next span → Merges window alignment g next span
+merges-along window alignment f g next span same m = record {
+  waits = all span.reads m.waits;
+  order = m.order;
+  serves = m.serves;
+  gathers = gathers window m.gathers;
+  range = m.range;
+}
+  where
+    all : (reads : List ReadRequest) → AllByRecursion (λ r. f r.id ≡ Some r) reads → AllByRecursion (λ r. g r.id ≡ Some r) reads
+    all [] h = tt
+    all (r ∷ rest) h = (sym (same r.id) ∙ h.0, all rest h.1)
+
+    gathers : (w : Option CoalesceConfig) → GathersIn w alignment f span.reads → GathersIn w alignment g span.reads
+    gathers None h = h
+    gathers (Some c) h = record { gaps = h.gaps; limit = h.limit; closure = λ r w u n. h.closure r (same r.id ∙ w) u n }
+
+-- a read that does not wait was not polled
+polled-none : (x : Option Read) → if_waiting x ≡ None → if_polled x ≡ false
+polled-none None h = refl
+polled-none (Some x) h = at x.request x.stage h
+  where
+    at : (r : ReadRequest) (s : Stage) → cond (is_waiting s) (Some r) None ≡ None → is_polled s ≡ false
+    at r Registered h = refl
+    at r Polled h = cc
+    at r (InFlight _ _ _) h = refl
+    at r Resolved h = refl
+
+-- one more span that is taken
+all_taken-push : (s : Scheduler) (spans : List Span) (span : Span) → all_taken s (spans ++ span ∷ []) ≡ taken (all_taken s spans) span
+all_taken-push s [] span = refl
+all_taken-push s (t ∷ rest) span = all_taken-push (taken s t) rest span
+
+-- the spans of a batch so far, and the numbers of their reads
+pub record SoFar (s : Scheduler) (spans : List Span) (before : BTreeSet ℕ) (from : ℕ) : Type 0 where
+  pub turn : (rest : List Span) → MergesInTurn (all_taken s spans) rest → MergesInTurn s (spans ++ rest)
+  pub others : (q : ℕ) → contains nat_cmp before q ≡ false → read_at (all_taken s spans).reads q ≡ read_at s.reads q
+  pub gone : (q : ℕ) → contains nat_cmp before q ≡ true → waiting_at (all_taken s spans).reads q ≡ None
+  pub past : (q : ℕ) → q < from → polled_at s.reads q ≡ true → contains nat_cmp before q ≡ true
+  pub window : (all_taken s spans).window ≡ s.window
+  pub alignment : (all_taken s spans).alignment ≡ s.alignment
+
+-- at first
+pub so_far-start : (s : Scheduler) (before : BTreeSet ℕ) (from : ℕ) → before.keys ≡ [] → NonePolledBelow s.reads from → SoFar s [] before from
+so_far-start s before from e idle = record {
+  turn = λ rest h. h;
+  others = λ q h. refl;
+  gone = λ q h. cc (sym h ∙ ap (λ ks. list_any (is_at (nat_cmp q)) ks) e);
+  past = λ q h p. cc (sym p ∙ idle q h);
+  window = refl;
+  alignment = refl;
+}
+
+module _ (s : Scheduler) (spans : List Span) (before : BTreeSet ℕ) (from : ℕ) (f : SoFar s spans before from) where
+  -- no polled read is left
+  pub so_far-none : ((q : ℕ) → from ≤ q → polled_at s.reads q ≡ true → contains nat_cmp before q ≡ true) → NonePolled (all_taken s spans).reads
+  so_far-none none q = at (contains nat_cmp before q) refl (polled_at s.reads q) refl
+    where
+      at : (b : Bool) → contains nat_cmp before q ≡ b → (p : Bool) → polled_at s.reads q ≡ p → polled_at (all_taken s spans).reads q ≡ false
+      at true h p e = polled-none (read_at (all_taken s spans).reads q) (f.gone q h)
+      at false h false e = ap if_polled (f.others q h) ∙ e
+      at false h true e = absurd (⊎_elim (λ (l : q < from). cc (sym h ∙ f.past q l e)) (λ (g : from ≤ q). cc (sym h ∙ none q g e)) (cases_lt q from))
+
+  -- what is free is what waits
+  free-waits : (q : ℕ) → free_at s.reads before q ≡ waiting_at (all_taken s spans).reads q
+  free-waits q = at (contains nat_cmp before q) refl
+    where
+      at : (b : Bool) → contains nat_cmp before q ≡ b → cond (contains nat_cmp before q) None (waiting_at s.reads q) ≡ waiting_at (all_taken s spans).reads q
+      at true h = ap (λ b. cond b None (waiting_at s.reads q)) h ∙ sym (f.gone q h)
+      at false h = ap (λ b. cond b None (waiting_at s.reads q)) h ∙ sym (ap if_waiting (f.others q h))
+
+  module _ (first : ReadRequest) (span : Span) (before' : BTreeSet ℕ)
+      (found : read_at s.reads first.id ≡ Some (record { request = first; stage = Polled }))
+      (fresh : contains nat_cmp before first.id ≡ false)
+      (least : (q : ℕ) → from ≤ q → q < first.id → polled_at s.reads q ≡ true → contains nat_cmp before q ≡ true)
+      (merges : Merges s.window s.alignment (free_at s.reads before) first.id span)
+      (numbers : (q : ℕ) → contains nat_cmp before' q ≡ (contains nat_cmp before q || is_listed span.reads q)) where
+    -- polled reads before the next are taken
+    sooner : (q : ℕ) → q < first.id → polled_at s.reads q ≡ true → contains nat_cmp before q ≡ true
+    sooner q l p = ⊎_elim (λ (b : q < from). f.past q b p) (λ (g : from ≤ q). least q g l p) (cases_lt q from)
+
+    -- the next read is the polled one of least number
+    is-next : IsNext (all_taken s spans).reads first.id
+    is-next = record {
+      polled = ap if_polled (f.others first.id fresh ∙ found);
+      least = λ q l. at q l (contains nat_cmp before q) refl (polled_at s.reads q) refl;
+    }
+      where
+        at : (q : ℕ) → q < first.id → (b : Bool) → contains nat_cmp before q ≡ b → (p : Bool) → polled_at s.reads q ≡ p → polled_at (all_taken s spans).reads q ≡ false
+        at q l true h p e = polled-none (read_at (all_taken s spans).reads q) (f.gone q h)
+        at q l false h false e = ap if_polled (f.others q h) ∙ e
+        at q l false h true e = cc (sym h ∙ sooner q l e)
+
+    -- the span merges from what the earlier ones leave
+    merges-now : MergesNow (all_taken s spans) span
+    merges-now = record {
+      next = first.id;
+      is_next = is-next;
+      merges = rw (f.window, f.alignment) (merges-along s.window s.alignment (free_at s.reads before) (waiting_at (all_taken s spans).reads) first.id span free-waits merges);
+    }
+
+    -- with one more span
+    pub so_far-step : SoFar s (spans ++ span ∷ []) before' first.id
+    so_far-step = record {
+      turn = λ rest h. rw append_assoc (f.turn (span ∷ rest) (merges-now, subst (λ t. MergesInTurn t rest) (all_taken-push s spans span) h));
+      others = λ q h. others q (or-false (contains nat_cmp before q) (is_listed span.reads q) (sym (numbers q) ∙ h));
+      gone = λ q h. gone q (is_listed span.reads q) refl (contains nat_cmp before q) refl (sym (numbers q) ∙ h);
+      past = λ q l p. numbers q ∙ or-true (contains nat_cmp before q) (is_listed span.reads q) (sooner q l p);
+      window = ap (λ (t : Scheduler). t.window) (all_taken-push s spans span) ∙ f.window;
+      alignment = ap (λ (t : Scheduler). t.alignment) (all_taken-push s spans span) ∙ f.alignment;
+    }
+      where
+        others : (q : ℕ) → (contains nat_cmp before q ≡ false) × (is_listed span.reads q ≡ false) → read_at (all_taken s (spans ++ span ∷ [])).reads q ≡ read_at s.reads q
+        others q h = ap (λ (t : Scheduler). read_at t.reads q) (all_taken-push s spans span)
+            ∙ all-other (Take (first_number span.reads) (length span.reads)) span.reads (all_taken s spans).reads q h.1 ∙ f.others q h.0
+
+        gone : (q : ℕ) (l : Bool) → is_listed span.reads q ≡ l → (b : Bool) → contains nat_cmp before q ≡ b → (contains nat_cmp before q || is_listed span.reads q) ≡ true → waiting_at (all_taken s (spans ++ span ∷ [])).reads q ≡ None
+        gone q true e b c h = ap (λ (t : Scheduler). waiting_at t.reads q) (all_taken-push s spans span)
+            ∙ taken-wait (first_number span.reads) (length span.reads) span.reads (all_taken s spans).reads q e
+        gone q false e true c h = ap (λ (t : Scheduler). waiting_at t.reads q) (all_taken-push s spans span)
+            ∙ ap if_waiting (all-other (Take (first_number span.reads) (length span.reads)) span.reads (all_taken s spans).reads q e) ∙ f.gone q c
+        gone q false e false c h = absurd (clash (contains nat_cmp before q) (is_listed span.reads q) c e h)
+          where
+            clash : (a b : Bool) → a ≡ false → b ≡ false → (a || b) ≡ true → ⊥
+            clash true b x y z = cc
+            clash false true x y z = cc
+            clash false false x y z = cc
+
+-- the spans so far merge in turn
+pub so_far-merge : (s : Scheduler) (spans : List Span) (before : BTreeSet ℕ) (from : ℕ) → SoFar s spans before from → MergesInTurn s spans
+so_far-merge s spans before from f = rw append-nil at (f.turn [] tt)
+
+-- one more number that was looked at
+pub least-step : (r : ReadRequest) (rest : List ReadRequest) (least id : ℕ) → (is_listed (r ∷ rest) id ≡ false → least ≤ id) → is_listed rest id ≡ false → min least r.id ≤ id
+least-step r rest least id before h = at (r.id == id) refl
+  where
+    at : (b : Bool) → (r.id == id) ≡ b → min least r.id ≤ id
+    at true e =
+        let same : r.id ≡ id = grind (arith, nat_tests) in
+        omega arith
+    at false e =
+        let held = before (ap (λ b. b || is_listed rest id) e ∙ h) in
+        omega (arith, held)
+
+-- no polled read below a taken span's numbers is left
+pub idle-taken : (s : Scheduler) (span : Span) (from least : ℕ) (reads : Reads) → MergesNow s span → NonePolledBelow s.reads from
+    → ((id : ℕ) → is_listed span.reads id ≡ true → least ≤ id) → ((q : ℕ) → polled_at s.reads q ≡ false → polled_at reads q ≡ false)
+    → NonePolledBelow reads (max from least)
+idle-taken s span from least reads m idle below keeps q l =
+    keeps q (⊎_elim (λ (h : q < from). idle q h)
+    (λ (h : from ≤ q).
+    let bound = below m.next m.merges.serves in
+    let early : q < m.next = omega (arith, bound) in
+    m.is_next.least q early)
+    (cases_lt q from))

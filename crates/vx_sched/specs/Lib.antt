@@ -1,0 +1,11 @@
+pub mod Counting
+pub mod Insert
+pub mod Io
+pub mod Law
+pub mod Merging
+pub mod Outcomes
+pub mod Picks
+pub mod Places
+pub mod Reads
+pub mod Scheduling
+pub mod Span

@@ -1,0 +1,68 @@
+// Making the spans of a batch.
+ghost use Rattle.std.specs.Prelude.{◌≡◌, ℕ, ◌<◌, ◌^◌, ◌||◌, ◌∷◌, [], Some, IfOk, OnOk};
+ghost use Rattle.std.specs.BTreeSet.{contains};
+ghost use Rattle.std.specs.Ordering.{nat_cmp};
+ghost use Rattle.vx_sched.specs.Span.{end_of};
+ghost use Rattle.vx_sched.specs.Merging.{Merges, is_listed, span_of};
+ghost use Rattle.vx_sched.specs.Picks.{free_at};
+
+use crate::gather::{Rules, gather};
+use crate::table::Table;
+use crate::{CoalescedRequest, ReadRequest};
+use std::alloc::{AllocError, Global};
+use std::collections::BTreeSet;
+use vx_base::{Alignment, CoalesceConfig};
+
+// The span of one read alone.
+pub fn lone(alloc: Global, first: ReadRequest) -> Result<CoalescedRequest, AllocError>
+    requires { end_of first < 2 ^ 64 }
+    ensures { IfOk result (λ span. span ≡ record {
+      start = first.offset;
+      end = end_of first;
+      alignment = first.alignment;
+      reads = first ∷ [];
+    }) }
+{
+    let start = first.offset;
+    let end = start + first.length as u64;
+    let alignment = first.alignment;
+    let mut reads = Vec::new(alloc);
+    reads.push(first)?;
+    Ok(CoalescedRequest::within(start, end, alignment, reads))
+}
+
+// The span that a window gathers from a read on.
+pub fn gathered(
+    alloc: Global,
+    table: &Table,
+    before: &BTreeSet<u64>,
+    window: CoalesceConfig,
+    alignment: Alignment,
+    first: ReadRequest,
+) -> Result<CoalescedRequest, AllocError>
+    requires free { free_at table.now before.now first.id ≡ Some first }
+    requires fits { end_of first < 2 ^ 64 }
+    ensures { IfOk result (λ span. Merges (Some window) alignment (free_at table.now before.now) first.id span) }
+{
+    let rules = Rules {
+        distance: window.distance,
+        limit: window.max_size,
+        alignment,
+    };
+    let picks = gather(alloc, table, before, &rules, first)?;
+    let start = alignment.down(picks.low);
+    let end = picks.high;
+    Ok(CoalescedRequest::within(start, end, alignment, picks.reads))
+}
+
+// Adds the numbers of reads.
+pub fn add_numbers(numbers: &mut BTreeSet<u64>, reads: &[ReadRequest]) -> Result<(), AllocError>
+    ensures { OnOk result ((q : ℕ) → contains nat_cmp numbers.new q
+        ≡ (contains nat_cmp numbers.old q || is_listed reads.now q)) }
+{
+    for read in reads {
+        let id = read.id;
+        numbers.insert(id)?;
+    }
+    Ok(())
+}

@@ -1,0 +1,61 @@
+// How many reads a scheduler has in each state.
+ghost use Rattle.std.specs.Prelude.{◌≡◌, ℕ, count_by};
+ghost use Rattle.vx_sched.specs.Counting.{is_of, count_of};
+
+use crate::read::{Read, Stage};
+use std::collections::BTreeMap;
+
+/// How many reads are registered, polled, in flight and resolved, and how many ranges are in flight.
+#[derive(Clone, Copy, Debug, PartialEq, Eq)]
+pub struct Counts {
+    pub registered: usize,
+    pub polled: usize,
+    pub in_flight: usize,
+    pub resolved: usize,
+    pub ranges: usize,
+}
+
+// What is counted.
+#[derive(Clone, Copy)]
+pub enum Kind {
+    IsRegistered,
+    IsPolled,
+    IsFlying,
+    IsResolved,
+    Leads,
+}
+
+// Whether a read is of a kind.
+fn is_kind(kind: Kind, id: u64, stage: &Stage) -> bool
+    ensures { result ≡ is_of kind id stage.now }
+{
+    match (kind, stage) {
+        (Kind::IsRegistered, Stage::Registered) => true,
+        (Kind::IsPolled, Stage::Polled) => true,
+        (Kind::IsFlying, Stage::InFlight { .. }) => true,
+        (Kind::IsResolved, Stage::Resolved) => true,
+        (
+            Kind::Leads,
+            Stage::InFlight {
+                span,
+                size: _,
+                dropped: _,
+            },
+        ) => *span == id,
+        _ => false,
+    }
+}
+
+// How many reads are of a kind.
+pub fn count_kind(reads: &BTreeMap<u64, Read>, kind: Kind) -> usize
+    ensures { result ≡ count_of kind reads.now.entries }
+{
+    let mut count = 0;
+    for (id, read) in reads.iter() {
+        let _ = id;
+        if is_kind(kind, read.request.id, &read.stage) {
+            count += 1;
+        }
+    }
+    count
+}

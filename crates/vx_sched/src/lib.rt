@@ -1,0 +1,32 @@
+#![tactic(auto)]
+
+// The scheduler of a coalescing reader: reads are registered, polled, gathered into spans, and
+// resolved.
+mod asking;
+mod batching;
+mod counts;
+mod event;
+mod fault;
+mod flying;
+mod gather;
+mod io_request;
+mod law;
+mod metrics;
+mod read;
+mod request;
+mod span;
+mod state;
+mod table;
+#[cfg(test)]
+mod tests;
+
+pub use asking::{ask, ask_size};
+pub use counts::Counts;
+pub use event::{Batch, Event, ReadEvent};
+pub use fault::{Fault, Outcome, Place};
+pub use io_request::IoRequest;
+pub use law::scheduling_law;
+pub use metrics::RequestMetrics;
+pub use request::ReadRequest;
+pub use span::{CoalescedRequest, RangeError};
+pub use state::State;

@@ -1,0 +1,248 @@
+// The reads of a scheduler, by number, and the places of those that wait.
+ghost use Rattle.std.specs.Prelude.{◌≡◌, ℕ, ◌==◌, ◌<◌, ◌≤◌, map, IfOk, ◌^◌, [], None, Some, cond, true, false, ◌&&◌, not, IsSome, IfSome, IfNone, OnOk, OnErr, option_map};
+ghost use Rattle.std.specs.BTreeMap.{insert_entry, is_at};
+ghost use Rattle.std.specs.BTreeSet.{contains, keys_between};
+ghost use Rattle.std.specs.List.{list_any};
+ghost use Rattle.std.specs.declared.ops.Bound.TheVariants.{Included};
+ghost use Rattle.vx_sched.specs.declared.request.ReadRequest.{ReadRequest};
+ghost use Rattle.std.specs.Ordering.{nat_cmp};
+ghost use Rattle.vx_sched.specs.Span.{end_of};
+ghost use Rattle.vx_sched.specs.Reads.{read_at, waiting_at, changed, with_stage, is_waiting, is_polled, is_poll};
+ghost use Rattle.vx_sched.specs.Places.{place_cmp, stays_waiting};
+ghost use Rattle.vx_sched.specs.Scheduling.{polled_at};
+ghost use Rattle.vx_sched.specs.Counting.{counts_of};
+
+use crate::ReadRequest;
+use crate::counts::{Counts, Kind, count_kind};
+use crate::read::{Change, Read, Stage, stage_after};
+use std::alloc::{AllocError, Global};
+use std::collections::{BTreeMap, BTreeSet};
+use std::marker::Model;
+
+#[derive(Drop)]
+pub struct Table {
+    reads: BTreeMap<u64, Read>,
+    places: BTreeSet<(u64, u64)>,
+}
+
+impl Model for Table {
+    ghost use Rattle.vx_sched.specs.Reads.{Reads};
+    ghost use Rattle.vx_sched.specs.Places.{IsTable};
+
+    ghost Value = { Reads };
+
+    ghost view = { λ t. t.reads.entries };
+
+    ghost invariant = { λ t. IsTable t.reads.entries t.places };
+}
+
+// Adds a read and its place, or neither.
+fn add(
+    reads: &mut BTreeMap<u64, Read>,
+    places: &mut BTreeSet<(u64, u64)>,
+    request: ReadRequest,
+) -> Result<(), AllocError>
+    ensures entries { OnOk result (reads.new.entries ≡ insert_entry nat_cmp reads.old.entries request.id
+        (record { request = request; stage = Stage.Registered })) }
+    ensures lookups { OnOk result ((q : ℕ) → read_at reads.new.entries q
+        ≡ cond (is_at (nat_cmp request.id) q) (Some (record { request = request; stage = Stage.Registered }))
+        (read_at reads.old.entries q)) }
+    ensures places { OnOk result ((k : ℕ × ℕ) → contains place_cmp places.new k
+        ≡ cond (is_at (place_cmp (request.offset, request.id)) k) true (contains place_cmp places.old k)) }
+    ensures kept { OnErr result (reads.new.entries ≡ reads.old.entries) }
+    ensures kept_places { contains place_cmp places.old (request.offset, request.id) ≡ false → OnErr result
+        ((k : ℕ × ℕ) → contains place_cmp places.new k ≡ contains place_cmp places.old k) }
+{
+    let id = request.id;
+    let place = (request.offset, id);
+    places.insert(place)?;
+    let read = Read {
+        request,
+        stage: Stage::Registered,
+    };
+    match reads.insert(id, read) {
+        Ok(_) => Ok(()),
+        Err(_) => {
+            places.remove(&place);
+            Err(AllocError)
+        }
+    }
+}
+
+// Puts the read of a number, which is there, in another stage, or takes it out.
+fn put(reads: &mut BTreeMap<u64, Read>, id: u64, request: ReadRequest, stage: Option<Stage>)
+    requires { IsSome (read_at reads.old.entries id) }
+    ensures entries { reads.new.entries ≡ with_stage reads.old.entries id request stage }
+    ensures lookups { (q : ℕ) → read_at reads.new.entries q ≡ cond (is_at (nat_cmp id) q)
+        (option_map (λ s. record { request = request; stage = s }) stage) (read_at reads.old.entries q) }
+{
+    match stage {
+        Some(stage) => match reads.insert(id, Read { request, stage }) {
+            Ok(_) => {}
+            Err(_) => unreachable!(),
+        },
+        None => {
+            reads.remove(&id);
+        }
+    }
+}
+
+// Takes the place of a read out, where it waits no longer.
+fn leave(places: &mut BTreeSet<(u64, u64)>, read: &Read, stage: Option<Stage>)
+    ensures { (k : ℕ × ℕ) → contains place_cmp places.new k ≡ cond
+        (is_waiting read.now.stage && not (stays_waiting stage) && is_at (place_cmp (read.now.request.offset, read.now.request.id)) k)
+        false (contains place_cmp places.old k) }
+{
+    let stays = match stage {
+        Some(stage) => stage.is_waiting(),
+        None => false,
+    };
+    if read.stage.is_waiting() && !stays {
+        places.remove(&(read.request.offset, read.request.id));
+    }
+}
+
+// The numbers at the places whose offsets lie in bounds, in order.
+fn numbers_between(
+    alloc: Global,
+    places: &BTreeSet<(u64, u64)>,
+    left: u64,
+    right: u64,
+) -> Result<Vec<u64>, AllocError>
+    requires { left ≤ right }
+    ensures { IfOk result (λ ids. ids.items ≡ map (λ (k : ℕ × ℕ). k.1)
+        (keys_between place_cmp (Included (left, 0)) (Included (right, u64.MAX)) places.now)) }
+{
+    let mut ids = Vec::new(alloc);
+    for place in places.range((left, 0)..=(right, u64::MAX)) {
+        ids.push(place.1)?;
+    }
+    Ok(ids)
+}
+
+// Whether a read was polled and waits, and is not among some.
+fn is_next(id: u64, read: &Read, taken: &BTreeSet<u64>) -> bool
+    ensures { result ≡ (is_polled read.now.stage && not (contains nat_cmp taken.now id)) }
+{
+    read.stage.is_polled() && !taken.contains(&id)
+}
+
+// The polled read of least number, from a number on, that is not among some.
+fn first_polled(
+    reads: &BTreeMap<u64, Read>,
+    from: u64,
+    taken: &BTreeSet<u64>,
+) -> Option<(u64, ReadRequest)>
+    ensures found { IfSome result (λ p. read_at reads.now.entries p.0
+        ≡ Some (record { request = p.1; stage = Stage.Polled })) }
+    ensures fresh { IfSome result (λ p. contains nat_cmp taken.now p.0 ≡ false) }
+    ensures least { IfSome result (λ p. (q : ℕ) → from ≤ q → q < p.0 → polled_at reads.now.entries q ≡ true →
+        contains nat_cmp taken.now q ≡ true) }
+    ensures none { IfNone result ((q : ℕ) → from ≤ q → polled_at reads.now.entries q ≡ true →
+        contains nat_cmp taken.now q ≡ true) }
+{
+    for (id, read) in reads.range(from..) {
+        if is_next(*id, read, taken) {
+            return Some((*id, read.request));
+        }
+    }
+    None
+}
+
+impl Table {
+    pub fn new(alloc: Global) -> Table
+        ensures { result ≡ [] }
+    {
+        Table {
+            reads: BTreeMap::new(alloc),
+            places: BTreeSet::new(alloc),
+        }
+    }
+
+    pub fn read(&self, id: u64) -> Option<Read>
+        ensures value { result ≡ read_at self.now id }
+        ensures keyed { IfSome result (λ x. (x.request.id ≡ id) × (end_of x.request < 2 ^ 64)) }
+    {
+        self.reads.get(&id).copied()
+    }
+
+    // The waiting read of a number.
+    pub fn waiting(&self, id: u64) -> Option<ReadRequest>
+        ensures value { result ≡ waiting_at self.now id }
+        ensures keyed { IfSome result (λ r. (r.id ≡ id) × (end_of r < 2 ^ 64)) }
+    {
+        let read = self.read(id)?;
+        if read.stage.is_waiting() {
+            Some(read.request)
+        } else {
+            None
+        }
+    }
+
+    // The polled read of least number, from a number on, that is not among some.
+    pub fn next_polled(&self, from: u64, taken: &BTreeSet<u64>) -> Option<ReadRequest>
+        ensures found { IfSome result (λ r. read_at self.now r.id ≡ Some (record { request = r; stage = Stage.Polled })) }
+        ensures fresh { IfSome result (λ r. contains nat_cmp taken.now r.id ≡ false) }
+        ensures fits { IfSome result (λ r. end_of r < 2 ^ 64) }
+        ensures least { IfSome result (λ r. (q : ℕ) → from ≤ q → q < r.id → polled_at self.now q ≡ true →
+            contains nat_cmp taken.now q ≡ true) }
+        ensures none { IfNone result ((q : ℕ) → from ≤ q → polled_at self.now q ≡ true →
+            contains nat_cmp taken.now q ≡ true) }
+    {
+        match first_polled(&self.reads, from, taken) {
+            Some((_, request)) => Some(request),
+            None => None,
+        }
+    }
+
+    // The numbers of the waiting reads whose offsets lie in bounds, in order. Only memory refuses.
+    pub fn places_near(&self, alloc: Global, left: u64, right: u64) -> Result<Vec<u64>, AllocError>
+        requires { left ≤ right }
+        ensures complete { IfOk result (λ ids. (id : ℕ) (r : ReadRequest) → waiting_at self.now id ≡ Some r →
+            left ≤ r.offset → r.offset ≤ right → list_any (λ n. n == id) ids.items ≡ true) }
+        ensures fits { (id : ℕ) (r : ReadRequest) → waiting_at self.now id ≡ Some r → end_of r < 2 ^ 64 }
+    {
+        let ids = numbers_between(alloc, &self.places, left, right)?;
+        Ok(ids)
+    }
+
+    // How many reads there are of each kind.
+    pub fn counts(&self) -> Counts
+        ensures { result ≡ counts_of self.now }
+    {
+        Counts {
+            registered: count_kind(&self.reads, Kind::IsRegistered),
+            polled: count_kind(&self.reads, Kind::IsPolled),
+            in_flight: count_kind(&self.reads, Kind::IsFlying),
+            resolved: count_kind(&self.reads, Kind::IsResolved),
+            ranges: count_kind(&self.reads, Kind::Leads),
+        }
+    }
+
+    // Registers a read of a new number. Only memory refuses.
+    pub fn register(&mut self, request: ReadRequest) -> Result<(), AllocError>
+        requires fresh { read_at self.old request.id ≡ None }
+        requires fits { end_of request < 2 ^ 64 }
+        ensures registered { OnOk result (self.new ≡ insert_entry nat_cmp self.old request.id
+            (record { request = request; stage = Stage.Registered })) }
+        ensures others { OnOk result ((q : ℕ) → request.id < q → read_at self.new q ≡ read_at self.old q) }
+        ensures idle { OnOk result ((q : ℕ) → polled_at self.old q ≡ false → polled_at self.new q ≡ false) }
+        ensures kept { OnErr result (self.new ≡ self.old) }
+    {
+        add(&mut self.reads, &mut self.places, request)
+    }
+
+    // Changes the read of a number, if there is one.
+    pub fn change(&mut self, id: u64, change: Change)
+        ensures changed { self.new ≡ changed change self.old id }
+        ensures others { (q : ℕ) → (id == q) ≡ false → read_at self.new q ≡ read_at self.old q }
+        ensures idle { is_poll change ≡ false → (q : ℕ) → polled_at self.old q ≡ false → polled_at self.new q ≡ false }
+        ensures none { (q : ℕ) → read_at self.old q ≡ None → read_at self.new q ≡ None }
+    {
+        if let Some(read) = self.read(id) {
+            let stage = stage_after(change, read.stage);
+            put(&mut self.reads, id, read.request, stage);
+            leave(&mut self.places, &read, stage);
+        }
+    }
+}

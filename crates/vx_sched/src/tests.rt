@@ -1,0 +1,226 @@
+// Worked rows of the scheduler, with ample memory.
+ghost use Rattle.std.specs.Prelude.{◌≡◌};
+
+use crate::{
+    CoalescedRequest, IoRequest, Outcome, RangeError, ReadEvent, ReadRequest, State, ask, ask_size,
+};
+use std::alloc::Global;
+use std::process::Abort;
+use std::test::Fail;
+use vx_base::{
+    Alignment, ByteBuffer, CoalesceConfig, FaultKind, MemReader, Mischief, MischiefKind,
+    ReadAtRequest,
+};
+
+fn aligned(exponent: u8) -> Alignment {
+    match Alignment::new(exponent) {
+        Ok(alignment) => alignment,
+        Err(_) => Alignment::none(),
+    }
+}
+
+fn read(id: u64, offset: u64, length: usize) -> ReadRequest
+    ensures { result ≡ record { id = id; offset = offset; length = length; alignment = 0 } }
+{
+    ReadRequest {
+        id,
+        offset,
+        length,
+        alignment: Alignment::none(),
+    }
+}
+
+fn window(distance: u64, max_size: u64) -> Option<CoalesceConfig> {
+    Some(CoalesceConfig { distance, max_size })
+}
+
+// Registers two reads, polls the first, and gives the spans of a batch.
+fn spans_of_two(
+    rt: &impl Abort,
+    alloc: Global,
+    settings: (Option<CoalesceConfig>, Alignment),
+    first: (u64, usize),
+    second: (u64, usize),
+) -> Result<Vec<CoalescedRequest>, Fail> {
+    let mut state = State::new(alloc, settings.0, settings.1, 4);
+    assert!(rt; first.0 < 1000 && first.1 < 1000);
+    assert!(rt; second.0 < 1000 && second.1 < 1000);
+    state.on_event(ReadEvent::Request(read(0, first.0, first.1)))?;
+    state.on_event(ReadEvent::Request(read(1, second.0, second.1)))?;
+    state.on_event(ReadEvent::Polled(0))?;
+    Ok(state.batch(alloc, 4)?)
+}
+
+#[test]
+fn a_near_read_is_absorbed_and_a_far_one_waits(rt: HostRuntime) -> Result<(), Fail> {
+    let near = spans_of_two(
+        &rt,
+        rt.alloc(),
+        (window(4, 100), aligned(0)),
+        (0, 10),
+        (14, 6),
+    )?;
+    assert_eq!(rt; near.len(), 1);
+    assert_eq!(rt; near[0].range().start, 0);
+    assert_eq!(rt; near[0].range().end, 20);
+    assert_eq!(rt; near[0].requests().len(), 2);
+    let far = spans_of_two(
+        &rt,
+        rt.alloc(),
+        (window(3, 100), aligned(0)),
+        (0, 10),
+        (14, 6),
+    )?;
+    assert_eq!(rt; far.len(), 1);
+    assert_eq!(rt; far[0].range().end, 10);
+    Ok(())
+}
+
+#[test]
+fn the_limit_has_room_for_alignment(rt: HostRuntime) -> Result<(), Fail> {
+    let fits = spans_of_two(
+        &rt,
+        rt.alloc(),
+        (window(8, 16), aligned(3)),
+        (10, 4),
+        (20, 8),
+    )?;
+    assert_eq!(rt; fits.len(), 1);
+    assert_eq!(rt; fits[0].range().start, 8);
+    assert_eq!(rt; fits[0].range().end, 28);
+    let long = spans_of_two(
+        &rt,
+        rt.alloc(),
+        (window(8, 16), aligned(3)),
+        (10, 4),
+        (20, 12),
+    )?;
+    assert_eq!(rt; long.len(), 1);
+    assert_eq!(rt; long[0].range().start, 8);
+    assert_eq!(rt; long[0].range().end, 14);
+    Ok(())
+}
+
+#[test]
+fn a_read_that_only_ends_near_is_left(rt: HostRuntime) -> Result<(), Fail> {
+    let spans = spans_of_two(
+        &rt,
+        rt.alloc(),
+        (window(50, 1000), aligned(0)),
+        (100, 10),
+        (0, 100),
+    )?;
+    assert_eq!(rt; spans.len(), 1);
+    assert_eq!(rt; spans[0].range().start, 100);
+    assert_eq!(rt; spans[0].range().end, 110);
+    Ok(())
+}
+
+#[test]
+fn a_span_is_taken_resolved_and_gone(rt: HostRuntime) -> Result<(), Fail> {
+    let mut state = State::new(rt.alloc(), None, aligned(0), 2);
+    state.on_event(ReadEvent::Request(read(3, 7, 5)))?;
+    assert_eq!(rt; state.counts().registered, 1);
+    state.on_event(ReadEvent::Polled(3))?;
+    assert_eq!(rt; state.counts().ranges, 0);
+    let span = state.next(rt.alloc())?.ok_or("no span")?;
+    assert_eq!(rt; span.range().start, 7);
+    assert_eq!(rt; span.range().end, 12);
+    assert_eq!(rt; state.counts().in_flight, 1);
+    assert_eq!(rt; state.counts().ranges, 1);
+    assert!(rt; state.next(rt.alloc())?.is_none());
+    assert!(rt; state.is_in_flight(&span));
+    state.resolve(&span);
+    assert!(rt; !state.is_in_flight(&span));
+    assert_eq!(rt; state.counts().resolved, 1);
+    state.on_event(ReadEvent::Dropped(3))?;
+    assert_eq!(rt; state.counts().resolved, 0);
+    Ok(())
+}
+
+#[test]
+fn parts_are_cut_from_a_span(rt: HostRuntime) -> Result<(), Fail> {
+    let reads = vec![in rt.alloc(); read(0, 6, 5), read(1, 12, 1)]?;
+    let span = match CoalescedRequest::try_new(4..13, aligned(2), reads) {
+        Ok(span) => span,
+        Err(_) => return Err(Fail::from("refused")),
+    };
+    assert_eq!(rt; span.requests().len(), 2);
+    let bytes = Vec::from_slice(rt.alloc(), b"456789abc")?;
+    let buffer = ByteBuffer::from_vec(rt.alloc(), bytes, aligned(2))?;
+    let range = span.range();
+    assert_eq!(rt; buffer.len() as u64, range.end - range.start);
+    assert_eq!(rt;
+        span.slice_of(rt.alloc(), &buffer, 0)?.as_slice(),
+        b"6789a".as_slice()
+    );
+    assert_eq!(rt;
+        span.slice_of(rt.alloc(), &buffer, 1)?.as_slice(),
+        b"c".as_slice()
+    );
+    let whole = IoRequest::Coalesced(span);
+    assert_eq!(rt; whole.offset(), 4);
+    assert_eq!(rt; whole.len(), 9);
+    assert_eq!(rt; whole.alignment().exponent(), 2);
+    Ok(())
+}
+
+#[test]
+fn a_range_that_is_no_span_is_refused_in_order(rt: HostRuntime) -> Result<(), Fail> {
+    let reversed = CoalescedRequest::try_new(5..4, aligned(0), Vec::new(rt.alloc()));
+    assert!(rt; matches!(reversed, Err(RangeError::RangeReversed)));
+    let before = vec![in rt.alloc(); read(0, 3, 9)]?;
+    assert!(rt;
+        matches!(
+            CoalescedRequest::try_new(4..8, aligned(0), before),
+            Err(RangeError::Precedes)
+        )
+    );
+    let after = vec![in rt.alloc(); read(0, 4, 5)]?;
+    assert!(rt;
+        matches!(
+            CoalescedRequest::try_new(4..8, aligned(0), after),
+            Err(RangeError::Exceeds)
+        )
+    );
+    Ok(())
+}
+
+#[test]
+fn answers_are_matched_by_range(rt: HostRuntime) -> Result<(), Fail> {
+    let wrongs = vec![in rt.alloc();
+        Mischief {
+            at: 0,
+            kind: MischiefKind::Skip
+        },
+        Mischief {
+            at: 1,
+            kind: MischiefKind::Unknown
+        },
+    ]?;
+    let bytes = Vec::from_slice(rt.alloc(), b"0123456789abcdef")?;
+    let held = ByteBuffer::from_vec(rt.alloc(), bytes, Alignment::none())?;
+    let mut reader = MemReader::new(rt.alloc(), held, None, 2, wrongs)?;
+    assert!(rt; ask_size(&mut reader).is_ok());
+    let asked = [
+        ReadAtRequest {
+            offset: 0,
+            length: 4,
+            alignment: Alignment::none(),
+        },
+        ReadAtRequest {
+            offset: 4,
+            length: 4,
+            alignment: Alignment::none(),
+        },
+    ];
+    let outcomes = ask(rt.alloc(), &mut reader, &asked)?;
+    assert_eq!(rt; outcomes.len(), 2);
+    assert!(rt;
+        matches!(&outcomes[0], Outcome::Fault(fault) if fault.kind() == FaultKind::MissingRange)
+    );
+    assert!(rt;
+        matches!(&outcomes[1], Outcome::Bytes(bytes) if bytes.as_slice() == b"4567".as_slice())
+    );
+    Ok(())
+}
