@@ -258,6 +258,32 @@ fn damaged_files_are_refused(rt: HostRuntime) -> Result<(), Fail> {
     Ok(())
 }
 
+// The places at which a byte FF leaves the file in the grammar: those of the first magic and the segment,
+// of the sizes of tables, of the row count, and of numbers that stay small enough or are not looked at.
+const STILL_READ: [usize; 74] = [
+    0, 1, 2, 3, 4, 5, 6, 7, 8, 9, 10, 11, 12, 13, 14, 15,
+    16, 17, 18, 19, 20, 21, 22, 23, 24, 25, 32, 33, 53, 54, 59, 60,
+    71, 72, 73, 74, 75, 76, 77, 78, 87, 88, 89, 90, 97, 98, 143, 144,
+    170, 173, 174, 205, 208, 209, 237, 240, 241, 269, 280, 281, 307, 312, 320, 334,
+    335, 362, 363, 382, 389, 390, 409, 416, 417, 436,
+];
+
+#[test]
+fn each_byte_set_to_its_greatest_value_is_read_or_refused(rt: HostRuntime) -> Result<(), Fail> {
+    let alloc = rt.alloc();
+    for place in 0..449 {
+        let mut file = four(alloc)?;
+        put(file.as_mut_slice(), place, &[0xff]);
+        let left = serve_four(alloc, "r 0\n", file, Failing::nowhere(alloc))?;
+        if STILL_READ.as_slice().contains(&place) {
+            assert_eq!(rt; left.status, 0);
+        } else {
+            assert!(rt; left.is(4, "", "vx: Refused\n"));
+        }
+    }
+    Ok(())
+}
+
 #[test]
 fn each_prefix_of_a_file_is_refused(rt: HostRuntime) -> Result<(), Fail> {
     let alloc = rt.alloc();
