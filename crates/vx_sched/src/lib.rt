@@ -11,6 +11,8 @@ mod flying;
 mod gather;
 mod io_request;
 mod law;
+#[cfg(test)]
+mod merging_tests;
 mod metrics;
 mod read;
 mod request;

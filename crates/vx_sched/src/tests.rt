@@ -12,7 +12,8 @@ use vx_base::{
     ReadAtRequest,
 };
 
-fn aligned(exponent: u8) -> Alignment {
+// The alignment of an exponent.
+pub fn aligned(exponent: u8) -> Alignment {
     match Alignment::new(exponent) {
         Ok(alignment) => alignment,
         Err(_) => Alignment::none(),
@@ -28,6 +29,31 @@ fn read(id: u64, offset: u64, length: usize) -> ReadRequest
         length,
         alignment: Alignment::none(),
     }
+}
+
+// The read, with the alignment of an exponent.
+fn claiming(read: ReadRequest, exponent: u8) -> ReadRequest {
+    ReadRequest {
+        id: read.id,
+        offset: read.offset,
+        length: read.length,
+        alignment: aligned(exponent),
+    }
+}
+
+// The bytes of one read of a span whose bytes are nine letters.
+fn cut_of(
+    rt: &impl Abort,
+    alloc: Global,
+    span: &CoalescedRequest,
+    index: usize,
+) -> Result<ByteBuffer, Fail> {
+    let bytes = Vec::from_slice(alloc, b"456789abc")?;
+    let buffer = ByteBuffer::from_vec(alloc, bytes, span.alignment())?;
+    let range = span.range();
+    assert!(rt; buffer.len() as u64 == range.end - range.start);
+    assert!(rt; index < span.requests().len());
+    Ok(span.slice_of(alloc, &buffer, index)?)
 }
 
 fn window(distance: u64, max_size: u64) -> Option<CoalesceConfig> {
@@ -162,6 +188,38 @@ fn parts_are_cut_from_a_span(rt: HostRuntime) -> Result<(), Fail> {
     assert_eq!(rt; whole.offset(), 4);
     assert_eq!(rt; whole.len(), 9);
     assert_eq!(rt; whole.alignment().exponent(), 2);
+    Ok(())
+}
+
+// Registers two reads with alignments of their own, polls the first, and gives the spans of a batch.
+fn spans_of_aligned(
+    rt: &impl Abort,
+    alloc: Global,
+    first: ReadRequest,
+    second: ReadRequest,
+) -> Result<Vec<CoalescedRequest>, Fail> {
+    let mut state = State::new(alloc, window(1, 16), aligned(2), 4);
+    assert!(rt; first.id == 0 && first.offset < 1000 && first.length < 1000);
+    assert!(rt; second.id == 1 && second.offset < 1000 && second.length < 1000);
+    state.on_event(ReadEvent::Request(first))?;
+    state.on_event(ReadEvent::Request(second))?;
+    state.on_event(ReadEvent::Polled(0))?;
+    Ok(state.batch(alloc, 4)?)
+}
+
+#[test]
+fn a_span_is_aligned_to_the_greatest_alignment(rt: HostRuntime) -> Result<(), Fail> {
+    let polled = claiming(read(0, 6, 5), 1);
+    let registered = claiming(read(1, 12, 1), 2);
+    let spans = spans_of_aligned(&rt, rt.alloc(), polled, registered)?;
+    assert_eq!(rt; spans.len(), 1);
+    let span = spans.first().ok_or("no span")?;
+    assert_eq!(rt; span.range().start, 4);
+    assert_eq!(rt; span.range().end, 13);
+    let first = cut_of(&rt, rt.alloc(), span, 0)?;
+    assert!(rt; first.as_slice() == b"6789a".as_slice());
+    let second = cut_of(&rt, rt.alloc(), span, 1)?;
+    assert!(rt; second.as_slice() == b"c".as_slice());
     Ok(())
 }
 
