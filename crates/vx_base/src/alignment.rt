@@ -1,4 +1,4 @@
-// An alignment is a power of two, kept as its exponent.
+//! An alignment is a power of two, kept as its exponent.
 ghost use Rattle.std.specs.Prelude.{◌≡◌, ◌+◌, ◌%◌, ◌^◌, ◌<◌, ◌≤◌, ◌==◌, ◌↔◌, IsOk, IfOk};
 ghost use Rattle.vx_base.specs.Aligned.{align_down};
 

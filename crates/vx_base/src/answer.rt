@@ -1,4 +1,4 @@
-// What a reader is asked, and what it answers.
+//! What a reader is asked, and what it answers.
 use crate::{Alignment, ByteBuffer, Failed, FaultKind};
 
 /// A range of a file that is to be read, and the alignment that its bytes are to claim.

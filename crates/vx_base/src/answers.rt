@@ -1,4 +1,4 @@
-// The answers of a reader in memory.
+//! The answers of a reader in memory.
 ghost use Rattle.std.specs.Prelude.{◌≡◌, ℕ, ◌≢◌, ◌∷◌, ◌++◌, List, [], length, map, All, None, IfOk, OnOk, true, false};
 ghost use Rattle.vx_base.specs.Asking.{IsTrueTo};
 ghost use Rattle.vx_base.specs.Memory.{plain_answer};

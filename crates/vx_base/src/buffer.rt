@@ -1,4 +1,4 @@
-// Bytes that are cut and shared without a copy.
+//! Bytes that are cut and shared without a copy.
 ghost use Rattle.std.specs.Prelude.{◌≡◌, ◌^◌, ◌<◌, ◌≤◌, ◌==◌, length, slice_range, IfOk};
 
 use crate::Alignment;

@@ -1,4 +1,4 @@
-// Faults of the outside.
+//! Faults of the outside.
 ghost use Rattle.std.specs.Prelude.{◌≡◌};
 ghost use Rattle.vx_base.specs.FaultName.{fault_name};
 

@@ -1,4 +1,4 @@
-// Readers over real files. They tell no content.
+//! Readers over real files. They tell no content.
 ghost use Rattle.std.specs.Prelude.{◌≡◌};
 
 use crate::{

@@ -1,7 +1,7 @@
+//! What the Vortex container stands on: small types, byte buffers, and the traits by which it reads
+//! and writes the outside, with implementations over memory and over real files.
 #![tactic(auto)]
 
-// What the Vortex container stands on: small types, byte buffers, and the traits by which it reads
-// and writes the outside, with implementations over memory and over real files.
 mod alignment;
 mod answer;
 mod answers;

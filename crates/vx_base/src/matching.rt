@@ -1,4 +1,4 @@
-// The log of one call of a reader: each range that was asked with the mark that its answer gives it.
+//! The log of one call of a reader: each range that was asked with the mark that its answer gives it.
 ghost use Rattle.std.specs.Prelude.{◌≡◌, ◌<◌, map, find, position, length, IfOk, IfSome, OnSome, OnOk, IfNone};
 ghost use Rattle.vx_base.specs.Asking.{logged, without_first, same_range, ranges_of, faulted};
 ghost use Rattle.vx_base.specs.Outlines.{outline_of, outlines, mark_of_outline};

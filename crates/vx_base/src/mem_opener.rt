@@ -1,4 +1,4 @@
-// An opener of readers over memory.
+//! An opener of readers over memory.
 ghost use Rattle.std.specs.Prelude.{◌≡◌, ℕ, ◌+◌, ◌∷◌, ◌++◌, min, List, [], Some, None, IfOk, OnOk, OnErr, string_bytes, IfSome, find, bytes_eq, option_map, false};
 ghost use Rattle.std.specs.Option.{option_map_or};
 ghost use Rattle.vx_base.specs.Memory.{is_well_behaved};

@@ -1,4 +1,4 @@
-// A reader over memory, which can do mischief.
+//! A reader over memory, which can do mischief.
 ghost use Rattle.std.specs.Prelude.{◌≡◌, ℕ, ◌+◌, ◌^◌, ◌≤◌, ◌<◌, ◌∷◌, ◌-◌, ◌++◌, min, List, [], length, map, All, IfOk, OnOk, OnErr, true};
 ghost use Rattle.vx_base.specs.Asking.{IsInside, IsTrueTo, ranges_of, faulted, logged};
 ghost use Rattle.vx_base.specs.Counts.{Rises, last_count};

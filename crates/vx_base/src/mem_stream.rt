@@ -1,4 +1,4 @@
-// Streams over memory.
+//! Streams over memory.
 ghost use Rattle.std.specs.Prelude.{◌≡◌, ℕ, [], true, false};
 ghost use Rattle.vx_base.specs.Counts.{Rises};
 
@@ -72,6 +72,7 @@ pub struct MemSink {
     failing: Vec<u64>,
     calls_made: u64,
     failures: u64,
+    starved: u64,
 }
 
 impl Model for MemSink {
@@ -79,7 +80,7 @@ impl Model for MemSink {
 
     ghost Value = { MemSinking };
 
-    ghost view = { λ s. record { gained = s.bytes.items; fail = s.failing.items; calls = s.calls_made; faults = s.failures } };
+    ghost view = { λ s. record { gained = s.bytes.items; fail = s.failing.items; calls = s.calls_made; faults = s.failures; without_memory = s.starved } };
 }
 
 impl MemSink {
@@ -87,13 +88,14 @@ impl MemSink {
 
     /// A stream that took nothing yet, whose writes and flushes at these places, from 0, fail.
     pub fn new(alloc: Global, fail: Vec<u64>) -> MemSink
-        ensures { result ≡ record { gained = []; fail = fail.items; calls = 0; faults = 0 } }
+        ensures { result ≡ record { gained = []; fail = fail.items; calls = 0; faults = 0; without_memory = 0 } }
     {
         MemSink {
             bytes: Vec::new(alloc),
             failing: fail,
             calls_made: 0,
             failures: 0,
+            starved: 0,
         }
     }
 
@@ -106,6 +108,7 @@ impl MemSink {
             failing: _,
             calls_made: _,
             failures: _,
+            starved: _,
         } = self;
         bytes
     }
@@ -113,6 +116,9 @@ impl MemSink {
     // Whether this call fails, which is then counted.
     fn fails(&mut self) -> bool
         ensures kept { self.new.gained ≡ self.old.gained }
+        ensures same_places { self.new.fail ≡ self.old.fail }
+        ensures same_memory { self.new.without_memory ≡ self.old.without_memory }
+        ensures none { self.old.fail ≡ [] → result ≡ false }
         ensures failed { result ≡ true → Rises 1 self.old.faults self.new.faults }
         ensures fine { result ≡ false → self.new.faults ≡ self.old.faults }
     {
@@ -128,18 +134,28 @@ impl MemSink {
 
 impl Sink for MemSink {
     ghost use Rattle.std.specs.Prelude.{Some};
+    ghost use Rattle.vx_base.specs.Streams.{is_empty};
 
     ghost gained = { λ s. Some s.gained };
 
     ghost faults = { λ s. s.faults };
+
+    ghost without_memory = { λ s. s.without_memory };
+
+    ghost never_fails = { λ s. is_empty s.fail };
 
     fn write(&mut self, alloc: Global, piece: &[u8]) -> Result<usize, SinkError> {
         let _ = alloc;
         if self.fails() {
             return Err(SinkError::Failed);
         }
-        self.bytes.extend_from_slice(piece)?;
-        Ok(piece.len())
+        match self.bytes.extend_from_slice(piece) {
+            Ok(()) => Ok(piece.len()),
+            Err(_) => {
+                self.starved = self.starved.saturating_add(1);
+                Err(SinkError::OutOfMemory)
+            }
+        }
     }
 
     fn flush(&mut self) -> Result<(), Failed> {

@@ -1,4 +1,4 @@
-// What a reader in memory does wrong.
+//! What a reader in memory does wrong.
 ghost use Rattle.std.specs.Prelude.{◌≡◌, [], None, false, IfSome, ◌≢◌};
 
 /// A kind of mischief: a range fails, is cut short, is skipped, is answered after an answer that

@@ -1,4 +1,4 @@
-// The trait of what opens readers by name.
+//! The trait of what opens readers by name.
 ghost use Rattle.std.specs.Prelude.{◌≡◌, ℕ, ◌+◌, ◌≤◌, min, ◌∷◌, ◌++◌, ◌⊎◌, Bool, true, List, [], Option, IfOk, OnOk, OnErr};
 ghost use Rattle.std.specs.Option.{option_map};
 ghost use Rattle.vx_base.specs.Asking.{Log};

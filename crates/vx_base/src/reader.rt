@@ -1,4 +1,4 @@
-// The trait of what is read at places.
+//! The trait of what is read at places.
 ghost use Rattle.std.specs.Prelude.{◌≡◌, ℕ, ◌≤◌, ◌++◌, List, [], length, All, Bool, true, Option, IsOk, IsSome, IfOk, OnErr};
 ghost use Rattle.std.specs.Option.{option_map};
 ghost use Rattle.vx_base.specs.Asking.{Log, logged, faulted, GrewOrStayed, IsInside, IsTrueTo};

@@ -1,4 +1,4 @@
-// Places of a file.
+//! Places of a file.
 ghost use Rattle.std.specs.Prelude.{◌≡◌, ◌+◌, ◌^◌, ◌<◌};
 
 use crate::Alignment;

@@ -1,4 +1,4 @@
-// Streams over those of the system. They tell no content.
+//! Streams over those of the system. They tell no content.
 ghost use Rattle.std.specs.Prelude.{◌≡◌, ◌<◌, ◌≤◌, length, IfSome};
 
 use crate::{Failed, Sink, SinkError, Source};
@@ -92,11 +92,15 @@ impl<W: Write + Drop> StdSink<W> {
 }
 
 impl<W: Write + Drop> Sink for StdSink<W> {
-    ghost use Rattle.std.specs.Prelude.{None};
+    ghost use Rattle.std.specs.Prelude.{None, false};
 
     ghost gained = { λ _. None };
 
     ghost faults = { λ s. s.failures };
+
+    ghost without_memory = { λ _. 0 };
+
+    ghost never_fails = { λ _. false };
 
     fn write(&mut self, alloc: Global, piece: &[u8]) -> Result<usize, SinkError> {
         let _ = alloc;

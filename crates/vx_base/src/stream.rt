@@ -1,5 +1,5 @@
-// The traits of streams of bytes.
-ghost use Rattle.std.specs.Prelude.{◌≡◌, ℕ, ◌<◌, ◌≤◌, ◌++◌, List, [], length, take, drop, Option, IfOk, OnErr};
+//! The traits of streams of bytes.
+ghost use Rattle.std.specs.Prelude.{◌≡◌, ℕ, ◌<◌, ◌≤◌, ◌++◌, Bool, true, List, [], length, take, drop, Option, IfOk, IsOk, OnErr};
 ghost use Rattle.std.specs.Option.{option_map};
 ghost use Rattle.vx_base.specs.Counts.{Rises};
 
@@ -35,6 +35,12 @@ pub trait Sink: Sized + Drop {
     // How many faults there were, up to the last count.
     ghost faults: { Self → ℕ };
 
+    // How many writes found no memory, up to the last count.
+    ghost without_memory: { Self → ℕ };
+
+    // Whether no call fails. A write may still find no memory.
+    ghost never_fails: { Self → Bool };
+
     /// Writes some bytes of the front of a piece, at least one unless it is empty, and says how many.
     fn write(&mut self, alloc: Global, piece: &[u8]) -> Result<usize, SinkError>
         ensures bound { IfOk result (λ n. n ≤ length piece.now) }
@@ -43,11 +49,19 @@ pub trait Sink: Sized + Drop {
             gained self.new ≡ option_map (λ g. g ++ take n piece.now) (gained self.old)) }
         ensures kept { OnErr result (gained self.new ≡ gained self.old) }
         ensures failed { result ≡ Err SinkError.Failed → Rises 1 (faults self.old) (faults self.new) }
-        ensures never_falls { faults self.old ≤ faults self.new };
+        ensures wanted { result ≡ Err SinkError.OutOfMemory →
+            Rises 1 (without_memory self.old) (without_memory self.new) }
+        ensures sound { never_fails self.old ≡ true → result ≡ Err SinkError.Failed → ⊥ }
+        ensures never_falls { faults self.old ≤ faults self.new }
+        ensures wanted_never_falls { without_memory self.old ≤ without_memory self.new }
+        ensures same_soundness { never_fails self.new ≡ never_fails self.old };
 
     /// Writes out what is held back.
     fn flush(&mut self) -> Result<(), Failed>
         ensures kept { gained self.new ≡ gained self.old }
         ensures failed { OnErr result (Rises 1 (faults self.old) (faults self.new)) }
-        ensures never_falls { faults self.old ≤ faults self.new };
+        ensures sound { never_fails self.old ≡ true → IsOk result }
+        ensures never_falls { faults self.old ≤ faults self.new }
+        ensures wanted_never_falls { without_memory self.old ≤ without_memory self.new }
+        ensures same_soundness { never_fails self.new ≡ never_fails self.old };
 }

@@ -1,4 +1,4 @@
-// The implementations of the outside, with ample memory, over memory and over real files.
+//! The implementations of the outside, with ample memory, over memory and over real files.
 use crate::{
     Alignment, Asked, ByteBuffer, CoalesceConfig, FaultKind, FileOpener, MemOpener, MemReader,
     MemSink, MemSource, Mischief, MischiefKind, Opener, RangeAnswer, ReadAtRequest, Reader, Sink,

@@ -1,4 +1,4 @@
-// A reader with another window and concurrency.
+//! A reader with another window and concurrency.
 ghost use Rattle.std.specs.Prelude.{◌≡◌, ℕ, ◌≤◌};
 
 use crate::{CloneError, CoalesceConfig, Failed, RangeAnswer, ReadAtRequest, Reader};

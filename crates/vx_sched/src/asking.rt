@@ -1,4 +1,4 @@
-// Asking a reader.
+//! Asking a reader.
 ghost use Rattle.std.specs.Prelude.{◌≡◌, ℕ, ◌≤◌, ◌++◌, List, length, All, true, Some, position, IfOk, IfErr, OnErr};
 ghost use Rattle.std.specs.Option.{option_map};
 ghost use Rattle.vx_base.specs.Asking.{logged, faulted, same_range, names, answer_to, without_answer, GrewOrStayed, IsInside, IsTrueTo};

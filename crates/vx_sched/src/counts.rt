@@ -1,4 +1,4 @@
-// How many reads a scheduler has in each state.
+//! How many reads a scheduler has in each state.
 ghost use Rattle.std.specs.Prelude.{◌≡◌, ℕ, count_by};
 ghost use Rattle.vx_sched.specs.Counting.{is_of, count_of};
 

@@ -1,4 +1,4 @@
-// What happens to a scheduler.
+//! What happens to a scheduler.
 use crate::{CoalescedRequest, ReadRequest};
 use std::marker::Model;
 

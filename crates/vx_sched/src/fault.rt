@@ -1,4 +1,4 @@
-// Faults of a reader, and what was asked.
+//! Faults of a reader, and what was asked.
 ghost use Rattle.std.specs.Prelude.{◌≡◌};
 
 use vx_base::{ByteBuffer, FaultKind};

@@ -1,4 +1,4 @@
-// Whether a span is in flight.
+//! Whether a span is in flight.
 ghost use Rattle.std.specs.Prelude.{◌≡◌, ℕ, ◌<◌, ◌≤◌, ◌^◌};
 ghost use Rattle.std.specs.List.{list_all};
 ghost use Rattle.vx_sched.specs.Span.{AllWithin};

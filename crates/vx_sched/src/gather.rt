@@ -1,4 +1,4 @@
-// Gathering the reads of a span.
+//! Gathering the reads of a span.
 ghost use Rattle.std.specs.Prelude.{◌≡◌, ℕ, ◌+◌, ◌-◌, ◌<◌, ◌≤◌, ◌^◌, ◌∷◌, [], true, false, Some, None, max, min, length, insert, ◌||◌, ◌==◌, IfOk, IfSome, OnOk};
 ghost use Rattle.std.specs.List.{list_any};
 ghost use Rattle.std.specs.BTreeSet.{contains};

@@ -1,4 +1,4 @@
-// What is asked of a reader in one range.
+//! What is asked of a reader in one range.
 ghost use Rattle.std.specs.Prelude.{◌≡◌, ◌==◌};
 ghost use Rattle.vx_sched.specs.Io.{io_offset, io_len, io_alignment};
 

@@ -1,4 +1,4 @@
-// The scheduling law.
+//! The scheduling law.
 ghost use Rattle.std.specs.Prelude.{◌≡◌, ℕ, ◌+◌, ◌-◌, ◌*◌, ◌^◌, ◌<◌, ◌≤◌, List, length, Some, Option};
 ghost use Rattle.vx_base.specs.declared.segment.CoalesceConfig.{CoalesceConfig};
 ghost use Rattle.vx_sched.specs.Span.{Span};

@@ -1,7 +1,7 @@
+//! The scheduler of a coalescing reader: reads are registered, polled, gathered into spans, and
+//! resolved.
 #![tactic(auto)]
 
-// The scheduler of a coalescing reader: reads are registered, polled, gathered into spans, and
-// resolved.
 mod asking;
 mod batching;
 mod counts;

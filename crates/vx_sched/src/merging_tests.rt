@@ -1,4 +1,4 @@
-// The spans of many small lists of reads, compared with plain searches.
+//! The spans of many small lists of reads, compared with plain searches.
 ghost use Rattle.std.specs.Prelude.{◌≡◌, ◌<◌, ◌≤◌, ◌+◌, OnOk};
 
 use crate::tests::aligned;

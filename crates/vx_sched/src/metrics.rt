@@ -1,4 +1,4 @@
-// Counts of what a reader was asked.
+//! Counts of what a reader was asked.
 
 /// How many spans of one read there were, spans of several, and reads in the latter; and how many
 /// calls of a reader, calls for several ranges, and ranges. Each stands still at its last value.

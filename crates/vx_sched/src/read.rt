@@ -1,4 +1,4 @@
-// A read that a scheduler keeps, and what happens to it.
+//! A read that a scheduler keeps, and what happens to it.
 ghost use Rattle.std.specs.Prelude.{◌≡◌};
 ghost use Rattle.vx_sched.specs.Reads.{after, is_waiting, is_polled};
 

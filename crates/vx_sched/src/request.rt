@@ -1,4 +1,4 @@
-// A read that is asked of the scheduler.
+//! A read that is asked of the scheduler.
 use vx_base::Alignment;
 
 /// A read: its number, the place and length of its bytes, and the alignment that they are to claim.

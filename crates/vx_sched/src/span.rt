@@ -1,4 +1,4 @@
-// A range of a file that serves several reads.
+//! A range of a file that serves several reads.
 ghost use Rattle.std.specs.Prelude.{◌≡◌, ◌-◌, ◌<◌, ◌≤◌, ◌+◌, ◌^◌, Some, None, length, slice_get, IfOk, IfErr};
 ghost use Rattle.vx_base.specs.Buffer.{bytes_at};
 ghost use Rattle.vx_sched.specs.declared.request.ReadRequest.{ReadRequest};

@@ -1,4 +1,4 @@
-// The scheduler's state.
+//! The scheduler's state.
 ghost use Rattle.std.specs.Prelude.{◌≡◌, ℕ, ◌+◌, ◌<◌, ◌≤◌, ◌^◌, [], true, false, length, IfOk, IfSome, IfNone, option_map, None, Some, IsOk, OnOk, OnErr};
 ghost use Rattle.vx_sched.specs.Reads.{read_at, is_poll, all_changed};
 ghost use Rattle.vx_sched.specs.Span.{end_of};

@@ -1,4 +1,4 @@
-// Worked rows of the scheduler, with ample memory.
+//! Worked rows of the scheduler, with ample memory.
 ghost use Rattle.std.specs.Prelude.{◌≡◌};
 
 use crate::{

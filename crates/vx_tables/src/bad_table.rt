@@ -1,3 +1,4 @@
+//! Why a table root cannot be read.
 use thiserror::Error;
 
 /// The bytes are no readable table, or it is too deep or too large.

@@ -1,3 +1,4 @@
+//! What the elements of a vector are.
 ghost use Rattle.std.specs.Prelude.{◌≡◌};
 
 /// What a vector has as elements.

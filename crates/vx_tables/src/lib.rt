@@ -16,7 +16,7 @@ mod wire;
 
 pub use bad_table::BadTable;
 pub use elements::Elements;
-pub use read_back::written_is_read_back;
+pub use read_back::{written_is_read_back, written_root_is_found};
 pub use table_error::TableError;
 pub use table_reader::TableReader;
 pub use table_writer::TableWriter;

@@ -1,3 +1,4 @@
+//! A field of a table that is written, as its bytes.
 use std::marker::Model;
 
 /// A field of a table that is written.

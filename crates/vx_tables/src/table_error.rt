@@ -1,3 +1,4 @@
+//! Why a table is not written.
 use std::alloc::{AllocError, AllocFailed};
 use thiserror::Error;
 

@@ -1,3 +1,4 @@
+//! Reads a table, field by field.
 ghost use Rattle.std.specs.Prelude.{◌≡◌, ◌-◌, ◌≤◌, OnOk, IfOk, IfSome, length, List, ℕ};
 ghost use Rattle.std.specs.Result.{result_ok};
 ghost use Rattle.std.specs.Option.{option_map, option_copied};

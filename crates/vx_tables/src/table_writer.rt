@@ -1,3 +1,4 @@
+//! Writes a table, field by field.
 ghost use Rattle.std.specs.Prelude.{◌≡◌, ◌≤◌, ◌<◌, ◌+◌, ◌^◌, ◌∷◌, [], ◌++◌, if◌then◌else◌, is_ok, map, string_bytes, IfOk, OnOk, length, List, ℕ};
 ghost use Rattle.std.specs.Int.{w8, w16, w32, w64};
 ghost use Rattle.vx_tables.specs.Field.{root};

@@ -1,3 +1,4 @@
+//! Reads the elements of a vector.
 ghost use Rattle.std.specs.Prelude.{◌≡◌, ◌==◌, ◌+◌, ◌≤◌, ◌<◌, IfOk, length};
 ghost use Rattle.std.specs.Result.{result_ok};
 ghost use Rattle.std.specs.Option.{option_map};

@@ -1,3 +1,4 @@
+//! The visits that a root may still take.
 ghost use Rattle.std.specs.Prelude.{◌≡◌, nat_le, ◌-◌, if◌then◌else◌, is_ok};
 ghost use Rattle.vx_tables.specs.Counted.{most_visits};
 
