@@ -1,7 +1,9 @@
 -- Turns of a drive, and what a reader was asked in them.
-use Rattle.std.proofs.Common.{◌≡◌, ℕ, zero, suc, ◌+◌, ◌-◌, ◌<◌, true, false, cond, List, [], ◌∷◌, ◌++◌, map, Option, Some, None, Result, Ok, Err, refl, sym, ap, subst, ◌∙◌, arith, append_assoc}
+use Rattle.std.proofs.Common.{◌≡◌, ℕ, zero, suc, ◌+◌, ◌-◌, ◌<◌, ◌≤◌, true, false, cond, List, [], ◌∷◌, ◌++◌, length, map, Option, Some, None, Result, Ok, Err, refl, sym, ap, subst, ◌∙◌, arith, append_assoc}
 use Rattle.std.specs.Prelude.{slice_get, slice_set}
-use Rattle.std.specs.Option.{option_map}
+use Rattle.std.specs.Option.{option_map, option_and_then}
+use Rattle.std.proofs.lemmas.Option.{slice_get_within, get_or_from_slice_get}
+use Rattle.std.proofs.lemmas.List.Elements.{All-get_or}
 use Rattle.std.proofs.lemmas.List.{append-nil, map-append}
 use Rattle.vx_base.specs.Buffer.{Buffer, bytes_at}
 use Rattle.vx_base.specs.Asking.{Log}
@@ -18,8 +20,9 @@ use Rattle.vx_file.specs.declared.span.Span.{Span}
 use Rattle.vx_file.specs.declared.span.SpanOutcome.{SpanOutcome}
 use Rattle.vx_file.specs.Asked.{Entry, Grew, entries, entry_of, span_entry, mark_of_read, mark_of_outcome}
 use Rattle.vx_file.specs.Asking.{Known, ReadsRange, faults_of}
-use Rattle.vx_file.specs.History.{Moment, moment}
-use Rattle.vx_file.specs.Fits.{World, Merges}
+use Rattle.vx_footer.specs.Opening.{EndsWithin}
+use Rattle.vx_file.specs.History.{Moment, moment, segment_of}
+use Rattle.vx_file.specs.Fits.{World, IsInFile, Merges}
 use Rattle.vx_file.specs.Kept.{Kept, IsNext, is_due_at, is_polled_state, with_state, read_state, outcome_read}
 use Rattle.vx_file.specs.Stands.{Stands}
 use Rattle.vx_file.specs.Turns.{Asks, Idle, Turned, Replied, KeepsTail, is_bad, bad_spans, count_due}
@@ -111,6 +114,18 @@ turned-is w past k n s end k' range before now read told st next is moved o l h 
           (subst (λ x. Stands w (moment Drive (Driven (x ∷ [])) ∷ past) (with_state k n r (read_state r.spec read))) span moves.1);
       asks = span-asks s end n range before now read ends o l h;
     }
+
+-- what is read next lies in the file
+pub due-inside : (w : World) (past : List Moment) (k : Kept) (n : ℕ) (s : SegmentSpec) → IsInFile w → Stands w past k → IsNext k n
+    → ((r : Request) → slice_get k.requests n ≡ Some r → s ≡ r.spec) → s.offset + s.length ≤ length w.file
+due-inside w past k n s inside st next is =
+    let due = due-request k.requests n next.due in
+    subst (λ (q : SegmentSpec). q.offset + q.length ≤ length w.file) (sym (is due.request due.found)) (of (segment_of past n) (st.each n due.request due.found).spec)
+  where
+    of : (o : Option ℕ) {r : SegmentSpec} → option_and_then (λ segment. slice_get w.table segment) o ≡ Some r → r.offset + r.length ≤ length w.file
+    of None e = absurd cc
+    of (Some segment) {r} e = subst (EndsWithin (length w.file)) (get_or_from_slice_get w.table segment r r e)
+        (All-get_or (EndsWithin (length w.file)) w.table segment r (slice_get_within w.table segment r e) inside)
 
 -- ---- how many are left
 

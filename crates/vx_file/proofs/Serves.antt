@@ -2,7 +2,9 @@
 use Rattle.std.proofs.Common.{◌≡◌, ℕ, ◌+◌, ◌-◌, List, [], ◌∷◌, ◌++◌, length, drop, Ok, refl, sym, ap, subst, ◌∙◌, arith, length-drop}
 use Rattle.vx_base.specs.Counts.{Rises}
 use Rattle.vx_footer.specs.declared.footer.Footer.{Footer}
-use Rattle.vx_footer.specs.Opening.{vx_grammar, IsTail}
+use Rattle.std.specs.Prelude.{All}
+use Rattle.vx_footer.specs.Opening.{vx_grammar, IsTail, EndsWithin}
+use Rattle.vx_file.specs.Fits.{IsInFile}
 use Rattle.vx_file.specs.declared.reply.Reply.{Reply}
 use Rattle.vx_file.specs.declared.serving.Tail.{Tail}
 use Rattle.vx_file.specs.declared.step.Step.{Step}
@@ -24,6 +26,13 @@ stands-new file footer t k h e = subst (Stands (world_of file footer) []) (sym e
   each = λ n r got. absurd cc;
   beyond = λ n past_end. record { live = refl; polled = refl; outcome = refl };
 })
+
+-- the segments of a footer that end within what was read end within the file
+pub in-file : (file : List ℕ) (footer : Footer) (start : ℕ) (tail : List ℕ) → IsTail file start tail → All (EndsWithin (start + length tail)) footer.segments → IsInFile (world_of file footer)
+in-file file footer start tail h all =
+    let size : length tail ≡ length file - start = ap length h.bytes ∙ length-drop start file in
+    let whole : start + length tail ≡ length file = omega (arith, size, h.begins) in
+    subst (λ n. All (EndsWithin n) footer.segments) whole all
 
 opening-is : (file : List ℕ) (t : Tail) (opening : List (ℕ × ℕ)) → IsTail file t.start t.bytes.bytes → opening ≡ (t.start, length t.bytes.bytes) ∷ [] → opening ≡ tail_ranges (length file)
 opening-is file t opening h e =

@@ -1,8 +1,9 @@
 -- Which replies fit a history: for each step and reply, what must hold of the moments before.
-use Rattle.std.specs.Prelude.{◌≡◌, ℕ, ◌+◌, ◌<◌, ◌≤◌, Bool, true, false, ◌&&◌, ◌||◌, nat_le, List, [], ◌∷◌, length, Option, Some, slice_get}
+use Rattle.std.specs.Prelude.{◌≡◌, ℕ, ◌+◌, ◌<◌, ◌≤◌, Bool, true, false, ◌&&◌, ◌||◌, nat_le, List, [], ◌∷◌, All, length, Option, Some, slice_get}
 use Rattle.std.specs.Option.{option_map, option_map_or, option_and_then}
 use Rattle.vx_base.specs.Buffer.{Buffer, bytes_at}
 use Rattle.vx_base.specs.declared.segment.SegmentSpec.{SegmentSpec}
+use Rattle.vx_footer.specs.Opening.{EndsWithin}
 use Rattle.vx_file.specs.declared.fault.Place.TheVariants.{Range}
 use Rattle.vx_file.specs.declared.step.Step.{Step}
 use Rattle.vx_file.specs.declared.step.Step.TheVariants.{Register, Poll, Drive}
@@ -18,6 +19,10 @@ pub record World : Type 0 where
   pub file : List ℕ
   pub table : List SegmentSpec
   pub start : ℕ
+
+-- each segment of the table ends within the file
+abbrev pub IsInFile : World → Type 0
+IsInFile w = All (EndsWithin (length w.file)) w.table
 
 -- a segment's bytes, with the alignment that it claims
 abbrev pub slice_of : List ℕ → SegmentSpec → Buffer

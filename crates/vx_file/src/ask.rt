@@ -1,5 +1,5 @@
 //! Asks a reader for one range.
-ghost use Rattle.std.specs.Prelude.{◌≡◌, ◌≤◌, ◌∷◌, [], position, IfOk, OnErr};
+ghost use Rattle.std.specs.Prelude.{◌≡◌, ◌+◌, ◌≤◌, ◌∷◌, [], ℕ, List, length, Some, true, position, IfOk, OnErr};
 ghost use Rattle.vx_base.specs.Asking.{names as is_named, same_range, answer_to, mark_of_answer, GrewOrStayed};
 ghost use Rattle.vx_file.specs.Asking.{kind_of, IsAnswered, read_of, ReadsRange};
 
@@ -76,6 +76,7 @@ pub(crate) fn ask<R: Reader>(
         (record { bytes = R.bytes reader.old; log = R.log reader.old; faults = R.faults reader.old; never_fails = R.never_fails reader.old })
         (record { bytes = R.bytes reader.new; log = R.log reader.new; faults = R.faults reader.new; never_fails = R.never_fails reader.new })) }
     ensures memory { OnErr result (GrewOrStayed (range ∷ []) (R.log reader.old) (R.log reader.new)) }
+    ensures steady { (file : List ℕ) → R.never_fails reader.old ≡ true → R.bytes reader.old ≡ Some file → range.offset + range.length ≤ length file → R.faults reader.new ≡ R.faults reader.old }
     ensures never_falls { R.faults reader.old ≤ R.faults reader.new }
     ensures same_bytes { R.bytes reader.new ≡ R.bytes reader.old }
     ensures same_soundness { R.never_fails reader.new ≡ R.never_fails reader.old }

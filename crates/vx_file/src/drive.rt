@@ -1,9 +1,9 @@
 //! Drives: reads of what was polled and waits.
-ghost use Rattle.std.specs.Prelude.{◌≡◌, ◌+◌, ◌≤◌, ◌<◌, ℕ, [], List, map, false, Some, IfOk, IfSome, IfNone};
+ghost use Rattle.std.specs.Prelude.{◌≡◌, ◌+◌, ◌≤◌, ◌<◌, ℕ, [], List, map, true, false, Some, IfOk, IfSome, IfNone};
 ghost use Rattle.vx_file.specs.declared.step.Step.TheVariants.{Drive};
 ghost use Rattle.vx_file.specs.declared.reply.Reply.TheVariants.{Driven};
 ghost use Rattle.vx_file.specs.History.{Moment, moment};
-ghost use Rattle.vx_file.specs.Fits.{World};
+ghost use Rattle.vx_file.specs.Fits.{World, IsInFile};
 ghost use Rattle.vx_file.specs.Kept.{is_due_at, outcome_read};
 ghost use Rattle.vx_file.specs.Stands.{Stands};
 ghost use Rattle.vx_file.specs.Turns.{KeepsTail, Idle, Turned, Replied, count_due};
@@ -37,6 +37,7 @@ fn read_next<R: Reader>(
         (record { bytes = R.bytes reader.new; log = R.log reader.new; faults = R.faults reader.new; never_fails = R.never_fails reader.new }))) }
     ensures smaller { IfOk result (λ o. IfSome o (λ _. count_due session.new.requests < count_due session.old.requests)) }
     ensures tail { KeepsTail session.old session.new }
+    ensures steady { (w : World) (past : List Moment) → R.never_fails reader.old ≡ true → R.bytes reader.old ≡ Some w.file → IsInFile w → Stands w past session.old → R.faults reader.new ≡ R.faults reader.old }
     ensures never_falls { R.faults reader.old ≤ R.faults reader.new }
     ensures same_bytes { R.bytes reader.new ≡ R.bytes reader.old }
     ensures same_soundness { R.never_fails reader.new ≡ R.never_fails reader.old }
@@ -70,6 +71,7 @@ pub(crate) fn drive<R: Reader>(
     ensures driven { IfOk result (λ spans. (w : World) (past : List Moment) → R.bytes reader.old ≡ Some w.file → Stands w past session.old →
         Replied w past Drive (record { bytes = R.bytes reader.old; log = R.log reader.old; faults = R.faults reader.old; never_fails = R.never_fails reader.old }) (record { bytes = R.bytes reader.new; log = R.log reader.new; faults = R.faults reader.new; never_fails = R.never_fails reader.new }) (Driven spans) session.new) }
     ensures tail { KeepsTail session.old session.new }
+    ensures steady { (w : World) (past : List Moment) → R.never_fails reader.old ≡ true → R.bytes reader.old ≡ Some w.file → IsInFile w → Stands w past session.old → R.faults reader.new ≡ R.faults reader.old }
     ensures never_falls { R.faults reader.old ≤ R.faults reader.new }
     ensures same_bytes { R.bytes reader.new ≡ R.bytes reader.old }
     ensures same_soundness { R.never_fails reader.new ≡ R.never_fails reader.old }

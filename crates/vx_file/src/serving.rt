@@ -1,5 +1,5 @@
 //! Serves scripts: opens a file from its tail, and answers one reply a step.
-ghost use Rattle.std.specs.Prelude.{◌≡◌, ◌+◌, ◌≤◌, ◌<◌, ◌^◌, ℕ, List, length, All, Some, false, IfOk, IsOk, [], ◌∷◌};
+ghost use Rattle.std.specs.Prelude.{◌≡◌, ◌+◌, ◌≤◌, ◌<◌, ◌^◌, ℕ, List, length, All, Some, true, false, IfOk, IsOk, [], ◌∷◌};
 ghost use Rattle.vx_footer.specs.Opening.{EndsWithin, IsTail, vx_grammar};
 ghost use Rattle.vx_file.specs.Serving.{HasCause, FaultRose, StandsStill, Succeeds, repeats};
 ghost use Rattle.vx_file.specs.Tails.{TailCause, TailRose, FooterCause, NoFault};
@@ -26,6 +26,7 @@ pub(crate) struct Tail {
 fn read_tail<R: Reader>(alloc: Global, reader: &mut R) -> Result<Tail, ServeError>
     ensures cause { (file : List ℕ) → R.bytes reader.old ≡ Some file → TailCause file (record { bytes = R.bytes reader.old; log = R.log reader.old; faults = R.faults reader.old; never_fails = R.never_fails reader.old }) (record { bytes = R.bytes reader.new; log = R.log reader.new; faults = R.faults reader.new; never_fails = R.never_fails reader.new }) result }
     ensures rose { TailRose (record { bytes = R.bytes reader.old; log = R.log reader.old; faults = R.faults reader.old; never_fails = R.never_fails reader.old }) (record { bytes = R.bytes reader.new; log = R.log reader.new; faults = R.faults reader.new; never_fails = R.never_fails reader.new }) result }
+    ensures steady { (file : List ℕ) → R.never_fails reader.old ≡ true → R.bytes reader.old ≡ Some file → R.faults reader.new ≡ R.faults reader.old }
     ensures bound { IfOk result (λ t. t.start + length t.bytes.bytes < 2 ^ 64) }
     ensures never_falls { R.faults reader.old ≤ R.faults reader.new }
     ensures same_bytes { R.bytes reader.new ≡ R.bytes reader.old }
@@ -77,6 +78,8 @@ pub fn serve<R: Reader>(
     ensures fault { FaultRose (record { bytes = R.bytes reader.old; log = R.log reader.old; faults = R.faults reader.old; never_fails = R.never_fails reader.old }) (record { bytes = R.bytes reader.new; log = R.log reader.new; faults = R.faults reader.new; never_fails = R.never_fails reader.new }) result }
     // A file of the grammar is served where the reader's count stands still.
     ensures served { (file : List ℕ) → R.bytes reader.old ≡ Some file → IsOk (vx_grammar file) → StandsStill (record { bytes = R.bytes reader.old; log = R.log reader.old; faults = R.faults reader.old; never_fails = R.never_fails reader.old }) (record { bytes = R.bytes reader.new; log = R.log reader.new; faults = R.faults reader.new; never_fails = R.never_fails reader.new }) → Succeeds result }
+    // The count of a reader that never fails stands still.
+    ensures steady { (file : List ℕ) → R.never_fails reader.old ≡ true → R.bytes reader.old ≡ Some file → R.faults reader.new ≡ R.faults reader.old }
     ensures never_falls { R.faults reader.old ≤ R.faults reader.new }
     ensures same_bytes { R.bytes reader.new ≡ R.bytes reader.old }
     ensures same_soundness { R.never_fails reader.new ≡ R.never_fails reader.old }

@@ -119,6 +119,7 @@ impl Session {
         requires inside { spec.now.offset + spec.now.length ≤ self.now.start + length self.now.tail.bytes }
         ensures { IfOk result (λ buffer. buffer ≡ cut_of self.now spec.now) }
     {
+        // The size of the file fits a u64, and so do the sums below.
         let size = self.size;
         let from = (spec.offset - self.start) as usize;
         let buffer = self.tail.slice(alloc, from..from + spec.length as usize)?;
@@ -143,6 +144,7 @@ impl Session {
         ensures kept { OnOk result (self.new ≡ with_request self.old (fresh self.old spec)) }
         ensures err { OnErr result (self.new ≡ self.old) }
     {
+        // The size of the file fits a u64, and so does the segment's end.
         let size = self.size;
         let number = self.requests.len() as u64;
         let held = self.start <= spec.offset;

@@ -1,5 +1,5 @@
 use Rattle.std.proofs.Common.{refl}
-use Rattle.vx_file.proofs.Driving.{turned-is, counts-down, keeps-tail}
+use Rattle.vx_file.proofs.Driving.{turned-is, due-inside, counts-down, keeps-tail}
 use Rattle.vx_file.proofs.drive.read_next.Goals as goal
 
 pub returns-clause-turned : goal.returns-clause-turned
@@ -12,3 +12,7 @@ returns-clause-smaller g c = counts-down c.args.session.now c.resolve.new.self c
 
 pub returns-clause-tail : goal.returns-clause-tail
 returns-clause-tail g c = keeps-tail c.args.session.now c.resolve.new.self c.in-Some.number c.in_ok-read.read c.in-Some.ensures.next.due c.resolve.ensures
+
+pub returns-clause-steady : goal.returns-clause-steady
+returns-clause-steady g c = λ w past never told inside stands.
+    c.in_ok-read.ensures.steady w.file never told (due-inside w past c.args.session.now c.in-Some.number c.in-Some.spec inside stands c.in-Some.ensures.next (λ r got. (c.in-Some.ensures.found r got).0))
