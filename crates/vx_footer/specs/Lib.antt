@@ -1,2 +1,4 @@
 pub mod Tables
 pub mod Opening
+pub mod Serialized
+pub mod Refused

@@ -1,4 +1,4 @@
-//! Reads the footer of a file from its tail.
+//! Reads the footer of a file from its tail, and writes it.
 #![tactic(auto)]
 
 mod error;
@@ -8,6 +8,8 @@ mod marker;
 mod opening;
 mod postscript;
 mod ptype;
+mod serialize_error;
+mod serializing;
 mod table;
 mod table_error;
 mod table_reading;
@@ -16,3 +18,7 @@ pub use error::{OpenError, Which};
 pub use footer::Footer;
 pub use list::{SegmentSpecs, TextList};
 pub use ptype::PType;
+pub use serialize_error::SerializeError;
+
+#[cfg(test)]
+mod tests;

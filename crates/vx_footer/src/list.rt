@@ -1,5 +1,5 @@
 //! Lists inside a footer.
-ghost use Rattle.std.specs.Prelude.{◌≡◌, ◌++◌, ◌∷◌, [], ◌<◌, length, slice_get, Some, is_ok, if◌then◌else◌, string_bytes};
+ghost use Rattle.std.specs.Prelude.{◌≡◌, ◌++◌, ◌∷◌, [], ◌<◌, length, slice_get, Some, is_ok, map, if◌then◌else◌, string_bytes};
 ghost use Rattle.std.specs.Option.{option_map};
 
 use std::alloc::{AllocFailed, Global};
@@ -84,6 +84,13 @@ impl TextList {
         ensures { slice_get self.now at ≡ Some result.now }
     {
         self.texts[at].as_str()
+    }
+
+    /// The texts as a slice.
+    pub fn as_slice(&self) -> &[String]
+        ensures { map string_bytes result.now ≡ self.now }
+    {
+        self.texts.as_slice()
     }
 
     /// Adds a text at the end. Without memory nothing changes.

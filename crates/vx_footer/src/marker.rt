@@ -5,9 +5,9 @@ use crate::OpenError;
 
 const MARKER_SIZE: usize = 8;
 
-const VERSION: u16 = 1;
+pub(crate) const VERSION: u16 = 1;
 
-const MAGIC: &[u8] = b"VTXF";
+pub(crate) const MAGIC: &[u8] = b"VTXF";
 
 const MAX_POSTSCRIPT_SIZE: usize = 65527;
 
