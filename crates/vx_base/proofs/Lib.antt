@@ -1,3 +1,4 @@
 pub mod AlignedLemmas
 pub mod MatchingLemmas
 pub mod MemoryLemmas
+pub mod TakingLemmas

@@ -7,3 +7,4 @@ pub mod Memory
 pub mod Outlines
 pub mod Returning
 pub mod Streams
+pub mod Taking

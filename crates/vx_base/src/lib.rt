@@ -21,6 +21,7 @@ mod stream;
 #[cfg(test)]
 mod tests;
 mod windowed;
+mod writing;
 
 pub use alignment::{Alignment, BadAlignment};
 pub use answer::{Asked, RangeAnswer, ReadAtRequest};
@@ -38,3 +39,4 @@ pub use segment::{CoalesceConfig, SegmentId, SegmentSpec};
 pub use std_stream::{StdSink, StdSource};
 pub use stream::{Sink, Source};
 pub use windowed::WithWindow;
+pub use writing::{write_all, write_flushed, write_pieces};

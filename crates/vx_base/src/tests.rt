@@ -2,7 +2,7 @@
 use crate::{
     Alignment, Asked, ByteBuffer, CoalesceConfig, FaultKind, FileOpener, MemOpener, MemReader,
     MemSink, MemSource, Mischief, MischiefKind, Opener, RangeAnswer, ReadAtRequest, Reader, Sink,
-    Source, StdSink, StdSource, WithWindow, log_answers,
+    Source, StdSink, StdSource, WithWindow, log_answers, write_flushed, write_pieces,
 };
 use std::alloc::Global;
 use std::fs;
@@ -147,6 +147,19 @@ fn streams_in_memory_fail_where_they_are_told(rt: HostRuntime) -> Result<(), Fai
     assert!(rt; sink.flush().is_ok());
     assert!(rt; sink.flush().is_err());
     assert_eq!(rt; sink.into_bytes().as_slice(), b"ab".as_slice());
+    Ok(())
+}
+
+#[test]
+fn pieces_are_written_one_behind_the_other(rt: HostRuntime) -> Result<(), Fail> {
+    let mut sink = MemSink::new(rt.alloc(), Vec::new(rt.alloc()));
+    let pieces = [b"ab".as_slice(), b"".as_slice(), b"cde".as_slice()];
+    assert!(rt; write_pieces(rt.alloc(), &mut sink, &pieces).is_ok());
+    assert!(rt; write_flushed(rt.alloc(), &mut sink, b"f").is_ok());
+    assert_eq!(rt; sink.into_bytes().as_slice(), b"abcdef".as_slice());
+    let mut failing = MemSink::new(rt.alloc(), vec![in rt.alloc(); 1]?);
+    assert!(rt; write_pieces(rt.alloc(), &mut failing, &pieces).is_err());
+    assert_eq!(rt; failing.into_bytes().as_slice(), b"ab".as_slice());
     Ok(())
 }
 
