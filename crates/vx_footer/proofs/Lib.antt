@@ -1,1 +1,6 @@
 pub mod Seen
+pub mod Walked
+pub mod TablesBack
+pub mod FooterBack
+pub mod TailBack
+pub mod WrittenRead

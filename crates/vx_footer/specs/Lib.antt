@@ -2,3 +2,4 @@ pub mod Tables
 pub mod Opening
 pub mod Serialized
 pub mod Refused
+pub mod Writable

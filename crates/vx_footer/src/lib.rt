@@ -8,6 +8,7 @@ mod marker;
 mod opening;
 mod postscript;
 mod ptype;
+mod read_back;
 mod serialize_error;
 mod serializing;
 mod table;
@@ -18,6 +19,7 @@ pub use error::{OpenError, Which};
 pub use footer::Footer;
 pub use list::{SegmentSpecs, TextList};
 pub use ptype::PType;
+pub use read_back::written_footer_is_read;
 pub use serialize_error::SerializeError;
 
 #[cfg(test)]
