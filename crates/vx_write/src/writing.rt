@@ -1,0 +1,139 @@
+//! Writes a file of one column: the magic, the segment, and the footer's tables behind it.
+ghost use Rattle.std.specs.Prelude.{◌≡◌, ◌≤◌, ◌<◌, ◌^◌, ◌+◌, ◌++◌, ◌∷◌, [], ℕ, length, true, OnOk, IfOk, map, string_bytes};
+ghost use Rattle.vx_write.specs.Column.{column_size as size_of_column, footer_of as footer_of_count, known_ids, written, column_bytes, head, AreI32};
+ghost use Rattle.vx_write.specs.Writing.{Writes, error_of_sink};
+ghost use Rattle.vx_write.specs.declared.write_error.WriteError.TheVariants as errors;
+ghost use Rattle.vx_footer.specs.Serialized.{serialized, joined};
+
+use crate::WriteError;
+use crate::column::{column_size, push_column};
+use std::alloc::{AllocError, Global};
+use vx_base::{Alignment, ByteBuffer, SegmentId, SegmentSpec, Sink, SinkError, write_flushed};
+use vx_footer::{Footer, PType, SegmentSpecs, TextList, written_footer_is_read};
+
+/// The magic, and zeros up to the segment.
+const HEAD: &[u8] = b"VTXF\0\0\0\0";
+
+/// Where the segment begins.
+const SEGMENT_OFFSET: u64 = 8;
+
+/// The segment and the tables lie at multiples of 2 to the power of this many bytes.
+const SEGMENT_EXPONENT: u8 = 3;
+
+/// The ids of arrays that are known, in order of bytes.
+const KNOWN_IDS: [&str; 4] = [
+    "vortex.bool",
+    "vortex.primitive",
+    "vortex.struct",
+    "vortex.varbin",
+];
+
+/// A file that was written: its footer, and how many bytes it has.
+#[derive(Drop)]
+pub struct Written {
+    pub footer: Footer,
+    pub size: u64,
+}
+
+fn array_ids(alloc: Global) -> Result<TextList, AllocError>
+    ensures { IfOk result (λ ids. ids ≡ known_ids) }
+{
+    let mut ids = TextList::new(alloc);
+    for id in &KNOWN_IDS {
+        ids.push(String::from_str(alloc, id)?)?;
+    }
+    Ok(ids)
+}
+
+/// The footer of a file of so many values, whose segment has `size` bytes.
+fn footer_of(alloc: Global, count: u64, size: u32) -> Result<Footer, AllocError>
+    requires { size ≡ size_of_column count }
+    ensures { IfOk result (λ footer. footer ≡ footer_of_count count) }
+{
+    let spec = SegmentSpec {
+        offset: SEGMENT_OFFSET,
+        length: size,
+        alignment: Alignment::new(SEGMENT_EXPONENT).unwrap(),
+    };
+    Ok(Footer {
+        row_count: count,
+        ptype: PType::I32,
+        segment: SegmentId(0),
+        segments: SegmentSpecs::new(vec![in alloc; spec]?),
+        array_ids: array_ids(alloc)?,
+    })
+}
+
+/// What follows the segment of `size` bytes. These tables are short, so only memory refuses.
+fn tables_of(alloc: Global, footer: &Footer, size: u32) -> Result<Vec<ByteBuffer>, AllocError>
+    ensures { IfOk result (λ buffers. joined buffers.items ≡ serialized (8 + size) footer.now) }
+{
+    match footer.serialize(alloc, SEGMENT_OFFSET + u64::from(size)) {
+        Ok(buffers) => Ok(buffers),
+        Err(_) => Err(AllocError),
+    }
+}
+
+/// Adds the bytes of buffers, one behind the other.
+fn push_buffers(bytes: &mut Vec<u8>, buffers: &[ByteBuffer]) -> Result<(), AllocError>
+    ensures { OnOk result (bytes.new.items ≡ bytes.old.items ++ joined buffers.now) }
+{
+    for buffer in buffers {
+        bytes.extend_from_slice(buffer.as_slice())?;
+    }
+    Ok(())
+}
+
+/// The whole file.
+#[tactic(auto, unfolding(crate::specs::Column::written))]
+fn file_bytes(
+    alloc: Global,
+    values: &[i32],
+    size: u32,
+    footer: &Footer,
+) -> Result<Vec<u8>, AllocError>
+    requires size { size ≡ size_of_column (length values.now) }
+    requires footer { footer.now ≡ footer_of_count (length values.now) }
+    ensures bytes { IfOk result (λ bytes. bytes.items ≡ written values.now) }
+    ensures fit { IfOk result (λ _. AreI32 values.now) }
+{
+    let mut bytes = Vec::new(alloc);
+    bytes.extend_from_slice(HEAD)?;
+    push_column(&mut bytes, values)?;
+    let tables = tables_of(alloc, footer, size)?;
+    push_buffers(&mut bytes, tables.as_slice())?;
+    Ok(bytes)
+}
+
+fn error_of(error: SinkError) -> WriteError
+    ensures { result ≡ error_of_sink error }
+{
+    match error {
+        SinkError::Failed => WriteError::WriteFault,
+        SinkError::OutOfMemory => WriteError::OutOfMemory,
+    }
+}
+
+/// Writes a file of one column of these values, in their order: not nullable, in one flat layout,
+/// without statistics and metadata. A segment of more than 2^32 - 1 bytes is refused.
+pub fn write<O: Sink>(alloc: Global, out: &mut O, values: &[i32]) -> Result<Written, WriteError>
+    ensures cause { Writes values.now (record { gained = O.gained out.old; faults = O.faults out.old; without_memory = O.without_memory out.old }) (record { gained = O.gained out.new; faults = O.faults out.new; without_memory = O.without_memory out.new }) result }
+    ensures sound { O.never_fails out.old ≡ true → result ≡ Err errors.WriteFault → ⊥ }
+    ensures never_falls { O.faults out.old ≤ O.faults out.new }
+    ensures wanted_never_falls { O.without_memory out.old ≤ O.without_memory out.new }
+    ensures same_soundness { O.never_fails out.new ≡ O.never_fails out.old }
+{
+    written_footer_is_read();
+    let Some(size) = column_size(values) else {
+        return Err(WriteError::SegmentTooLong);
+    };
+    let footer = footer_of(alloc, values.len() as u64, size)?;
+    let bytes = file_bytes(alloc, values, size, &footer)?;
+    match write_flushed(alloc, out, bytes.as_slice()) {
+        Ok(()) => Ok(Written {
+            size: bytes.len() as u64,
+            footer,
+        }),
+        Err(error) => Err(error_of(error)),
+    }
+}
