@@ -3,18 +3,12 @@ use Rattle.std.specs.Prelude.{◌≡◌, ℕ, ℤ, ◌<◌, ◌≤◌, ◌^◌, 
 use Rattle.vx_base.specs.Counts.{Rises}
 use Rattle.vx_base.specs.declared.fault.SinkError.{SinkError}
 use Rattle.vx_base.specs.declared.fault.SinkError.TheVariants as sink
-use Rattle.vx_base.specs.Taking.{Took, TookPrefix}
+use Rattle.vx_base.specs.Taking.{SinkKnown, Took, TookPrefix}
 use Rattle.vx_footer.specs.Opening.{vx_grammar}
 use Rattle.vx_write.specs.declared.writing.Written.{Written}
 use Rattle.vx_write.specs.declared.write_error.WriteError.{WriteError}
 use Rattle.vx_write.specs.declared.write_error.WriteError.TheVariants as errors
 use Rattle.vx_write.specs.Column.{column_size, written, rows}
-
--- what a sink knows: the bytes that it took, its count of faults, and that of writes without memory
-pub record SinkKnown : Type 0 where
-  pub gained : Option (List ℕ)
-  pub faults : ℕ
-  pub without_memory : ℕ
 
 -- a column was written: the sink took the whole file, which is in the grammar, with this footer and these rows
 pub record WritesColumn (values : List ℤ) (before now : SinkKnown) (w : Written) : Type 0 where
