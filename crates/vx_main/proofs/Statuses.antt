@@ -1,19 +1,23 @@
 -- What each exit status of a run says, from the cause of its answer.
 use Rattle.std.proofs.Common.{◌≡◌, ℕ, ◌≤◌, ◌<◌, List, [], true, false, Option, Some, None, Result, Ok, Err, subst, sym, ap, ◌∙◌, arith, length, if◌then◌else◌, ◌⊎◌, inl, inr, refl, le-ltb, lt-ltb}
-use Rattle.std.specs.Prelude.{Vec, IsErr}
+use Rattle.std.specs.Prelude.{ℤ, Vec, IsErr}
 use Rattle.std.specs.Global.{Global}
 use Rattle.vx_base.specs.Counts.{Rises}
+use Rattle.vx_base.specs.Taking.{SinkKnown}
 use Rattle.vx_footer.specs.declared.footer.Footer.{Footer}
 use Rattle.vx_footer.specs.Opening.{vx_grammar}
 use Rattle.vx_file.specs.declared.step.Step.{Step}
 use Rattle.vx_file.specs.Serving.{repeats}
+use Rattle.vx_write.specs.Column.{written}
 use Rattle.vx_main.specs.declared.command.Command.{Command}
-use Rattle.vx_main.specs.declared.command.Command.TheVariants.{Help, Version, Serve}
+use Rattle.vx_main.specs.declared.command.Command.TheVariants.{Help, Version, Serve, Demo}
+use Rattle.vx_main.specs.Command.{Words}
+use Rattle.vx_main.specs.Demo.{HoldsRows, Demonstrates, DemoText}
 use Rattle.vx_main.specs.declared.failure.Failure.{Failure}
 use Rattle.vx_main.specs.declared.failure.Failure.TheVariants as failures
-use Rattle.vx_main.specs.Run.{status_of, FilesKnown, SinkKnown, AskedOnce, ServesFile, ScriptCause, FileCause, LoadedCause, CommandCause, IsText, help_text, version_text, Concludes, Fails, Prints, CutShort, Unfinished}
+use Rattle.vx_main.specs.Run.{status_of, FilesKnown, AskedOnce, ServesFile, ScriptCause, FileCause, LoadedCause, DemoAnswer, CommandCause, IsText, help_text, version_text, Concludes, Fails, Prints, CutShort, Unfinished, Outside}
 use Rattle.vx_main.specs.Script.{script_of}
-use Rattle.vx_main.specs.Statuses.{Told, NoScript, Steady, AllWell, file_status, script_status, wanted_status, Statuses}
+use Rattle.vx_main.specs.Statuses.{Told, NoScript, Steady, StreamsWell, AllWell, file_status, script_status, wanted_status, Statuses}
 use Rattle.vx_main.specs.Streams.{SourceKnown, ReadToEnd, TooLong, most_input}
 
 -- ---- the cause of a failure
@@ -35,11 +39,11 @@ abbrev pub FailureCause : Option Command → SourceKnown → SourceKnown → Fil
 FailureCause command source source_now files files_now failures.Usage = command ≡ None
 FailureCause command source source_now files files_now (failures.Line line) = ScriptCause source source_now (Err (failures.Line line))
 FailureCause command source source_now files files_now failures.Script = ScriptCause source source_now (Err failures.Script)
-FailureCause command source source_now files files_now failures.Refused = Loaded source source_now × Refuses files
-FailureCause command source source_now files files_now (failures.Read fault) = Rises 1 files.read_faults files_now.read_faults
+FailureCause command source source_now files files_now failures.Refused = (command ≡ Some Serve) × Loaded source source_now × Refuses files
+FailureCause command source source_now files files_now (failures.Read fault) = (command ≡ Some Serve) × Rises 1 files.read_faults files_now.read_faults
 FailureCause command source source_now files files_now failures.Input = Rises 1 source.faults source_now.faults
 FailureCause command source source_now files files_now failures.Output = ⊥
-FailureCause command source source_now files files_now failures.Open = Rises 1 files.faults files_now.faults
+FailureCause command source source_now files files_now failures.Open = (command ≡ Some Serve) × Rises 1 files.faults files_now.faults
 FailureCause command source source_now files files_now failures.InputTooLong = ScriptCause source source_now (Err failures.InputTooLong)
 FailureCause command source source_now files files_now failures.OutOfMemory = Unit {0}
 
@@ -57,21 +61,21 @@ script-failed command source source_now files files_now failures.InputTooLong h 
 script-failed command source source_now files files_now failures.OutOfMemory h = tt
 
 -- a failure of the file, once the script was there
-file-failed : (command : Option Command) (source source_now : SourceKnown) (files files_now : FilesKnown) (name : List ℕ) (steps : Vec Step Global) → ScriptCause source source_now (Ok steps) → repeats [] steps.items ≡ false → (failure : Failure) → FileCause name steps.items files files_now (Err failure) → FailureCause command source source_now files files_now failure
-file-failed command source source_now files files_now name steps read distinct failures.Usage h = absurd h
-file-failed command source source_now files files_now name steps read distinct (failures.Line line) h = absurd h
-file-failed command source source_now files files_now name steps read distinct failures.Script h = absurd h
-file-failed command source source_now files files_now name steps read distinct failures.Refused h = (λ text told. let r = read text told in record { steps = steps.items; script = r.1; distinct = distinct; read = r.0 }, h.1)
-file-failed command source source_now files files_now name steps read distinct (failures.Read fault) h = h.1
-file-failed command source source_now files files_now name steps read distinct failures.Input h = absurd h
-file-failed command source source_now files files_now name steps read distinct failures.Output h = absurd h
-file-failed command source source_now files files_now name steps read distinct failures.Open h = h.1
-file-failed command source source_now files files_now name steps read distinct failures.InputTooLong h = absurd h
-file-failed command source source_now files files_now name steps read distinct failures.OutOfMemory h = tt
+file-failed : (command : Option Command) → command ≡ Some Serve → (source source_now : SourceKnown) (files files_now : FilesKnown) (name : List ℕ) (steps : Vec Step Global) → ScriptCause source source_now (Ok steps) → repeats [] steps.items ≡ false → (failure : Failure) → FileCause name steps.items files files_now (Err failure) → FailureCause command source source_now files files_now failure
+file-failed command serve source source_now files files_now name steps read distinct failures.Usage h = absurd h
+file-failed command serve source source_now files files_now name steps read distinct (failures.Line line) h = absurd h
+file-failed command serve source source_now files files_now name steps read distinct failures.Script h = absurd h
+file-failed command serve source source_now files files_now name steps read distinct failures.Refused h = (serve, λ text told. let r = read text told in record { steps = steps.items; script = r.1; distinct = distinct; read = r.0 }, h.1)
+file-failed command serve source source_now files files_now name steps read distinct (failures.Read fault) h = (serve, h.1)
+file-failed command serve source source_now files files_now name steps read distinct failures.Input h = absurd h
+file-failed command serve source source_now files files_now name steps read distinct failures.Output h = absurd h
+file-failed command serve source source_now files files_now name steps read distinct failures.Open h = (serve, h.1)
+file-failed command serve source source_now files files_now name steps read distinct failures.InputTooLong h = absurd h
+file-failed command serve source source_now files files_now name steps read distinct failures.OutOfMemory h = tt
 
-loaded-failed : (command : Option Command) (source source_now : SourceKnown) (files files_now : FilesKnown) (name : List ℕ) (script : Result (Vec Step Global) Failure) → ScriptCause source source_now script → (failure : Failure) → LoadedCause name files files_now script (Err failure) → FailureCause command source source_now files files_now failure
-loaded-failed command source source_now files files_now name (Ok steps) read failure h = file-failed command source source_now files files_now name steps read h.0 failure h.1
-loaded-failed command source source_now files files_now name (Err other) read failure h = let same : failure ≡ other = cc in subst (λ f. FailureCause command source source_now files files_now f) (sym same) (script-failed command source source_now files files_now other read)
+loaded-failed : (command : Option Command) → command ≡ Some Serve → (source source_now : SourceKnown) (files files_now : FilesKnown) (name : List ℕ) (script : Result (Vec Step Global) Failure) → ScriptCause source source_now script → (failure : Failure) → LoadedCause name files files_now script (Err failure) → FailureCause command source source_now files files_now failure
+loaded-failed command serve source source_now files files_now name (Ok steps) read failure h = file-failed command serve source source_now files files_now name steps read h.0 failure h.1
+loaded-failed command serve source source_now files files_now name (Err other) read failure h = let same : failure ≡ other = cc in subst (λ f. FailureCause command source source_now files files_now f) (sym same) (script-failed command source source_now files files_now other read)
 
 text-failed : (command : Option Command) (source source_now : SourceKnown) (files files_now : FilesKnown) (text : List ℕ) (failure : Failure) → IsText text (Err failure) → FailureCause command source source_now files files_now failure
 text-failed command source source_now files files_now text failures.Usage h = absurd h
@@ -85,11 +89,28 @@ text-failed command source source_now files files_now text failures.Open h = abs
 text-failed command source source_now files files_now text failures.InputTooLong h = absurd h
 text-failed command source source_now files files_now text failures.OutOfMemory h = tt
 
-command-failed : (command : Option Command) (source source_now : SourceKnown) (files files_now : FilesKnown) (name : List ℕ) (failure : Failure) → CommandCause command name source source_now files files_now (Err failure) → FailureCause command source source_now files files_now failure
-command-failed None source source_now files files_now name failure h = let same : failure ≡ failures.Usage = cc in subst (λ f. FailureCause None source source_now files files_now f) (sym same) refl
-command-failed (Some Help) source source_now files files_now name failure h = text-failed (Some Help) source source_now files files_now help_text failure h.0
-command-failed (Some Version) source source_now files files_now name failure h = text-failed (Some Version) source source_now files files_now version_text failure h.0
-command-failed (Some Serve) source source_now files files_now name failure h = loaded-failed (Some Serve) source source_now files files_now name h.script h.read failure h.answered
+shown-failed : (command : Option Command) (source source_now : SourceKnown) (files files_now : FilesKnown) (values : List ℤ) (steps : List Step) (failure : Failure) → DemoText values steps (Err failure) → FailureCause command source source_now files files_now failure
+shown-failed command source source_now files files_now values steps failures.Usage h = absurd h
+shown-failed command source source_now files files_now values steps (failures.Line line) h = absurd h
+shown-failed command source source_now files files_now values steps failures.Script h = absurd h
+shown-failed command source source_now files files_now values steps failures.Refused h = absurd h
+shown-failed command source source_now files files_now values steps (failures.Read fault) h = absurd h
+shown-failed command source source_now files files_now values steps failures.Input h = absurd h
+shown-failed command source source_now files files_now values steps failures.Output h = absurd h
+shown-failed command source source_now files files_now values steps failures.Open h = absurd h
+shown-failed command source source_now files files_now values steps failures.InputTooLong h = absurd h
+shown-failed command source source_now files files_now values steps failures.OutOfMemory h = tt
+
+demo-failed : (command : Option Command) (source source_now : SourceKnown) (files files_now : FilesKnown) (values : List ℤ) (script : Result (Vec Step Global) Failure) → ScriptCause source source_now script → (failure : Failure) → DemoAnswer values script (Err failure) → FailureCause command source source_now files files_now failure
+demo-failed command source source_now files files_now values (Ok steps) read failure h = shown-failed command source source_now files files_now values steps.items failure h.1
+demo-failed command source source_now files files_now values (Err other) read failure h = let same : failure ≡ other = cc in subst (λ f. FailureCause command source source_now files files_now f) (sym same) (script-failed command source source_now files files_now other read)
+
+command-failed : (command : Option Command) (source source_now : SourceKnown) (files files_now : FilesKnown) (w : Words) (failure : Failure) → CommandCause command w source source_now files files_now (Err failure) → FailureCause command source source_now files files_now failure
+command-failed None source source_now files files_now w failure h = let same : failure ≡ failures.Usage = cc in subst (λ f. FailureCause None source source_now files files_now f) (sym same) refl
+command-failed (Some Help) source source_now files files_now w failure h = text-failed (Some Help) source source_now files files_now help_text failure h.0
+command-failed (Some Version) source source_now files files_now w failure h = text-failed (Some Version) source source_now files files_now version_text failure h.0
+command-failed (Some Serve) source source_now files files_now w failure h = loaded-failed (Some Serve) refl source source_now files files_now w.name h.script h.read failure h.answered
+command-failed (Some Demo) source source_now files files_now w failure h = demo-failed (Some Demo) source source_now files files_now w.values h.script h.read failure h.answered
 
 -- ---- each status has its cause
 
@@ -109,7 +130,7 @@ fails-refused : (command : Option Command) (source source_now : SourceKnown) (fi
 fails-refused command source source_now files files_now failures.Usage h is = absurd (omega (arith, is))
 fails-refused command source source_now files files_now (failures.Line line) h is = absurd (omega (arith, is))
 fails-refused command source source_now files files_now failures.Script h is = absurd (omega (arith, is))
-fails-refused command source source_now files files_now failures.Refused h is = h.1
+fails-refused command source source_now files files_now failures.Refused h is = h.2
 fails-refused command source source_now files files_now (failures.Read fault) h is = absurd (omega (arith, is))
 fails-refused command source source_now files files_now failures.Input h is = absurd (omega (arith, is))
 fails-refused command source source_now files files_now failures.Output h is = absurd (omega (arith, is))
@@ -122,7 +143,7 @@ fails-read command source source_now files files_now failures.Usage h is = absur
 fails-read command source source_now files files_now (failures.Line line) h is = absurd (omega (arith, is))
 fails-read command source source_now files files_now failures.Script h is = absurd (omega (arith, is))
 fails-read command source source_now files files_now failures.Refused h is = absurd (omega (arith, is))
-fails-read command source source_now files files_now (failures.Read fault) h is = h
+fails-read command source source_now files files_now (failures.Read fault) h is = h.1
 fails-read command source source_now files files_now failures.Input h is = absurd (omega (arith, is))
 fails-read command source source_now files files_now failures.Output h is = absurd (omega (arith, is))
 fails-read command source source_now files files_now failures.Open h is = absurd (omega (arith, is))
@@ -161,7 +182,7 @@ fails-open command source source_now files files_now failures.Refused h is = abs
 fails-open command source source_now files files_now (failures.Read fault) h is = absurd (omega (arith, is))
 fails-open command source source_now files files_now failures.Input h is = absurd (omega (arith, is))
 fails-open command source source_now files files_now failures.Output h is = absurd (omega (arith, is))
-fails-open command source source_now files files_now failures.Open h is = h
+fails-open command source source_now files files_now failures.Open h is = h.1
 fails-open command source source_now files files_now failures.InputTooLong h is = absurd (omega (arith, is))
 fails-open command source source_now files files_now failures.OutOfMemory h is = absurd (omega (arith, is))
 
@@ -176,6 +197,27 @@ fails-long command source source_now files files_now failures.Output h is = absu
 fails-long command source source_now files files_now failures.Open h is = absurd (omega (arith, is))
 fails-long command source source_now files files_now failures.InputTooLong h is = h
 fails-long command source source_now files files_now failures.OutOfMemory h is = absurd (omega (arith, is))
+
+-- the statuses of a file
+abbrev pub IsOfFile : ℕ → Type 0
+IsOfFile code = (code ≡ 4) ⊎ ((code ≡ 5) ⊎ (code ≡ 8))
+
+no-file-at : (code : ℕ) → (code ≡ 4 → ⊥) → (code ≡ 5 → ⊥) → (code ≡ 8 → ⊥) → IsOfFile code → ⊥
+no-file-at code four five eight (inl is) = four is
+no-file-at code four five eight (inr (inl is)) = five is
+no-file-at code four five eight (inr (inr is)) = eight is
+
+fails-file : (command : Option Command) (source source_now : SourceKnown) (files files_now : FilesKnown) (failure : Failure) → FailureCause command source source_now files files_now failure → IsOfFile (status_of failure) → command ≡ Some Serve
+fails-file command source source_now files files_now failures.Usage h is = absurd (no-file-at _ (λ e. omega (arith, e)) (λ e. omega (arith, e)) (λ e. omega (arith, e)) is)
+fails-file command source source_now files files_now (failures.Line line) h is = absurd (no-file-at _ (λ e. omega (arith, e)) (λ e. omega (arith, e)) (λ e. omega (arith, e)) is)
+fails-file command source source_now files files_now failures.Script h is = absurd (no-file-at _ (λ e. omega (arith, e)) (λ e. omega (arith, e)) (λ e. omega (arith, e)) is)
+fails-file command source source_now files files_now failures.Refused h is = h.0
+fails-file command source source_now files files_now (failures.Read fault) h is = h.0
+fails-file command source source_now files files_now failures.Input h is = absurd (no-file-at _ (λ e. omega (arith, e)) (λ e. omega (arith, e)) (λ e. omega (arith, e)) is)
+fails-file command source source_now files files_now failures.Output h is = absurd (no-file-at _ (λ e. omega (arith, e)) (λ e. omega (arith, e)) (λ e. omega (arith, e)) is)
+fails-file command source source_now files files_now failures.Open h is = h.0
+fails-file command source source_now files files_now failures.InputTooLong h is = absurd (no-file-at _ (λ e. omega (arith, e)) (λ e. omega (arith, e)) (λ e. omega (arith, e)) is)
+fails-file command source source_now files files_now failures.OutOfMemory h is = absurd (no-file-at _ (λ e. omega (arith, e)) (λ e. omega (arith, e)) (λ e. omega (arith, e)) is)
 
 fails-script : (command : Option Command) (source source_now : SourceKnown) (files files_now : FilesKnown) (name : List ℕ) (err err_now : SinkKnown) (failure : Failure) → FailureCause command source source_now files files_now failure → Told failure name err err_now → status_of failure ≡ 3 → (text : List ℕ) → source.rest ≡ Some text → NoScript text name source_now err err_now
 fails-script command source source_now files files_now name err err_now failures.Usage h printed is = absurd (omega (arith, is))
@@ -216,17 +258,37 @@ status-outside : {E : Type 0} (grammar : Result Footer E) → IsErr grammar → 
 status-outside (Ok footer) h = absurd cc
 status-outside (Err bad) h = refl
 
-failure-deserved : (command : Option Command) (source source_now : SourceKnown) (files files_now : FilesKnown) (out out_now : SinkKnown) (text file : List ℕ) → command ≡ Some Serve → AllWell text file source source_now files files_now out out_now → (failure : Failure) → FailureCause command source source_now files files_now failure → (status_of failure ≡ wanted_status text (vx_grammar file)) ⊎ (status_of failure ≡ 70)
-failure-deserved command source source_now files files_now out out_now text file serve well failures.Usage h = absurd (let none : command ≡ None = h in let clash : None ≡ Some Serve = sym none ∙ serve in cc)
-failure-deserved command source source_now files files_now out out_now text file serve well (failures.Line line) h = let r = h text well.input in inl (sym (wanted-line text (vx_grammar file) line r.0.short r.1))
-failure-deserved command source source_now files files_now out out_now text file serve well failures.Script h = let r = h text well.input in inl (sym (wanted-twice text (vx_grammar file) r.1.0 r.0.short r.1.1 r.1.2))
-failure-deserved command source source_now files files_now out out_now text file serve well failures.Refused h = let r = h.0 text well.input in inl (sym (wanted-file text (vx_grammar file) r.steps r.read.short r.script r.distinct ∙ status-outside (vx_grammar file) (h.1 file well.bytes)))
-failure-deserved command source source_now files files_now out out_now text file serve well (failures.Read fault) h = absurd (not-rising files.read_faults files_now.read_faults well.reads_steady h)
-failure-deserved command source source_now files files_now out out_now text file serve well failures.Input h = absurd (not-rising source.faults source_now.faults well.input_steady h)
-failure-deserved command source source_now files files_now out out_now text file serve well failures.Output h = absurd h
-failure-deserved command source source_now files files_now out out_now text file serve well failures.Open h = absurd (not-rising files.faults files_now.faults well.opens_steady h)
-failure-deserved command source source_now files files_now out out_now text file serve well failures.InputTooLong h = let r = h text well.input in inl (sym (wanted-long text (vx_grammar file) r.long))
-failure-deserved command source source_now files files_now out out_now text file serve well failures.OutOfMemory h = inr refl
+-- no count of the input or of the opener rose
+pub record Well (text file : List ℕ) (source source_now : SourceKnown) (files files_now : FilesKnown) : Type 0 where
+  pub input : source.rest ≡ Some text
+  pub bytes : files.file ≡ Some file
+  pub input_steady : Steady source.faults source_now.faults
+  pub opens_steady : Steady files.faults files_now.faults
+  pub reads_steady : Steady files.read_faults files_now.read_faults
+
+failure-deserved : (command : Option Command) (source source_now : SourceKnown) (files files_now : FilesKnown) (text file : List ℕ) → command ≡ Some Serve → Well text file source source_now files files_now → (failure : Failure) → FailureCause command source source_now files files_now failure → (status_of failure ≡ wanted_status text (vx_grammar file)) ⊎ (status_of failure ≡ 70)
+failure-deserved command source source_now files files_now text file serve well failures.Usage h = absurd (let none : command ≡ None = h in let clash : None ≡ Some Serve = sym none ∙ serve in cc)
+failure-deserved command source source_now files files_now text file serve well (failures.Line line) h = let r = h text well.input in inl (sym (wanted-line text (vx_grammar file) line r.0.short r.1))
+failure-deserved command source source_now files files_now text file serve well failures.Script h = let r = h text well.input in inl (sym (wanted-twice text (vx_grammar file) r.1.0 r.0.short r.1.1 r.1.2))
+failure-deserved command source source_now files files_now text file serve well failures.Refused h = let r = h.1 text well.input in inl (sym (wanted-file text (vx_grammar file) r.steps r.read.short r.script r.distinct ∙ status-outside (vx_grammar file) (h.2 file well.bytes)))
+failure-deserved command source source_now files files_now text file serve well (failures.Read fault) h = absurd (not-rising files.read_faults files_now.read_faults well.reads_steady h.1)
+failure-deserved command source source_now files files_now text file serve well failures.Input h = absurd (not-rising source.faults source_now.faults well.input_steady h)
+failure-deserved command source source_now files files_now text file serve well failures.Output h = absurd h
+failure-deserved command source source_now files files_now text file serve well failures.Open h = absurd (not-rising files.faults files_now.faults well.opens_steady h.1)
+failure-deserved command source source_now files files_now text file serve well failures.InputTooLong h = let r = h text well.input in inl (sym (wanted-long text (vx_grammar file) r.long))
+failure-deserved command source source_now files files_now text file serve well failures.OutOfMemory h = inr refl
+
+demo-deserved : {E : Type 0} (command : Option Command) (source source_now : SourceKnown) (files files_now : FilesKnown) (text : List ℕ) (grammar : Result Footer E) → command ≡ Some Demo → source.rest ≡ Some text → Steady source.faults source_now.faults → (failure : Failure) → FailureCause command source source_now files files_now failure → (status_of failure ≡ wanted_status text grammar) ⊎ (status_of failure ≡ 70)
+demo-deserved command source source_now files files_now text grammar demo told steady failures.Usage h = absurd (let none : command ≡ None = h in let clash : None ≡ Some Demo = sym none ∙ demo in cc)
+demo-deserved command source source_now files files_now text grammar demo told steady (failures.Line line) h = let r = h text told in inl (sym (wanted-line text grammar line r.0.short r.1))
+demo-deserved command source source_now files files_now text grammar demo told steady failures.Script h = let r = h text told in inl (sym (wanted-twice text grammar r.1.0 r.0.short r.1.1 r.1.2))
+demo-deserved command source source_now files files_now text grammar demo told steady failures.Refused h = absurd (let clash : Some Serve ≡ Some Demo = sym h.0 ∙ demo in cc)
+demo-deserved command source source_now files files_now text grammar demo told steady (failures.Read fault) h = absurd (let clash : Some Serve ≡ Some Demo = sym h.0 ∙ demo in cc)
+demo-deserved command source source_now files files_now text grammar demo told steady failures.Input h = absurd (not-rising source.faults source_now.faults steady h)
+demo-deserved command source source_now files files_now text grammar demo told steady failures.Output h = absurd h
+demo-deserved command source source_now files files_now text grammar demo told steady failures.Open h = absurd (let clash : Some Serve ≡ Some Demo = sym h.0 ∙ demo in cc)
+demo-deserved command source source_now files files_now text grammar demo told steady failures.InputTooLong h = let r = h text told in inl (sym (wanted-long text grammar r.long))
+demo-deserved command source source_now files files_now text grammar demo told steady failures.OutOfMemory h = inr refl
 
 -- ---- the cause of a text
 
@@ -236,9 +298,15 @@ pub record Gives (name text file : List ℕ) (source_now : SourceKnown) (files f
   pub asked : AskedOnce name files files_now
   pub serves : ServesFile file name loads.steps files files_now printed
 
-pub record TextCause (command : Option Command) (name : List ℕ) (source source_now : SourceKnown) (files files_now : FilesKnown) (printed : List ℕ) : Type 0 where
+-- a script was served from the file of some values, and this is the text of it
+pub record ShowsText (values : List ℤ) (text : List ℕ) (source_now : SourceKnown) (printed : List ℕ) : Type 0 where
+  pub loads : Loads text source_now
+  pub shows : Demonstrates values loads.steps printed
+
+pub record TextCause (command : Option Command) (w : Words) (source source_now : SourceKnown) (files files_now : FilesKnown) (printed : List ℕ) : Type 0 where
   pub known : command ≡ None → ⊥
-  pub gives : command ≡ Some Serve → (text file : List ℕ) → source.rest ≡ Some text → files.file ≡ Some file → Gives name text file source_now files files_now printed
+  pub gives : command ≡ Some Serve → (text file : List ℕ) → source.rest ≡ Some text → files.file ≡ Some file → Gives w.name text file source_now files files_now printed
+  pub shows : command ≡ Some Demo → (text : List ℕ) → source.rest ≡ Some text → ShowsText w.values text source_now printed
 
 loaded-gives : (name : List ℕ) (source source_now : SourceKnown) (files files_now : FilesKnown) (script : Result (Vec Step Global) Failure) (printed : Vec ℕ Global) → ScriptCause source source_now script → LoadedCause name files files_now script (Ok printed)
     → (text file : List ℕ) → source.rest ≡ Some text → files.file ≡ Some file → Gives name text file source_now files files_now printed.items
@@ -249,17 +317,26 @@ loaded-gives name source source_now files files_now (Ok steps) printed read h te
 }
 loaded-gives name source source_now files files_now (Err failure) printed read h text file told bytes = absurd (let clash = h.0 in cc)
 
-command-gives : (command : Option Command) (name : List ℕ) (source source_now : SourceKnown) (files files_now : FilesKnown) (printed : Vec ℕ Global) → CommandCause command name source source_now files files_now (Ok printed) → TextCause command name source source_now files files_now printed.items
-command-gives None name source source_now files files_now printed h = absurd (let clash = h.0 in cc)
-command-gives (Some Help) name source source_now files files_now printed h = record { known = λ none. absurd cc; gives = λ serve. absurd cc }
-command-gives (Some Version) name source source_now files files_now printed h = record { known = λ none. absurd cc; gives = λ serve. absurd cc }
-command-gives (Some Serve) name source source_now files files_now printed h = record { known = λ none. absurd cc; gives = λ serve text file told bytes. loaded-gives name source source_now files files_now h.script printed h.read h.answered text file told bytes }
+demo-shows : (values : List ℤ) (source source_now : SourceKnown) (script : Result (Vec Step Global) Failure) (printed : Vec ℕ Global) → ScriptCause source source_now script → DemoAnswer values script (Ok printed)
+    → (text : List ℕ) → source.rest ≡ Some text → ShowsText values text source_now printed.items
+demo-shows values source source_now (Ok steps) printed read h text told = let r = read text told in record {
+  loads = record { steps = steps.items; script = r.1; distinct = h.0; read = r.0 };
+  shows = h.1;
+}
+demo-shows values source source_now (Err failure) printed read h text told = absurd (let clash = h in cc)
+
+command-gives : (command : Option Command) (w : Words) (source source_now : SourceKnown) (files files_now : FilesKnown) (printed : Vec ℕ Global) → CommandCause command w source source_now files files_now (Ok printed) → TextCause command w source source_now files files_now printed.items
+command-gives None w source source_now files files_now printed h = absurd (let clash = h.0 in cc)
+command-gives (Some Help) w source source_now files files_now printed h = record { known = λ none. absurd cc; gives = λ serve. absurd cc; shows = λ demo. absurd cc }
+command-gives (Some Version) w source source_now files files_now printed h = record { known = λ none. absurd cc; gives = λ serve. absurd cc; shows = λ demo. absurd cc }
+command-gives (Some Serve) w source source_now files files_now printed h = record { known = λ none. absurd cc; gives = λ serve text file told bytes. loaded-gives w.name source source_now files files_now h.script printed h.read h.answered text file told bytes; shows = λ demo. absurd cc }
+command-gives (Some Demo) w source source_now files files_now printed h = record { known = λ none. absurd cc; gives = λ serve. absurd cc; shows = λ demo text told. demo-shows w.values source source_now h.script printed h.read h.answered text told }
 
 -- ---- the statuses
 
-usage-answer : (command : Option Command) (name : List ℕ) (source source_now : SourceKnown) (files files_now : FilesKnown) (failure : Failure) → CommandCause command name source source_now files files_now (Err failure) → command ≡ None → failure ≡ failures.Usage
-usage-answer None name source source_now files files_now failure h none = let same = h.0 in cc
-usage-answer (Some command) name source source_now files files_now failure h none = absurd cc
+usage-answer : (command : Option Command) (w : Words) (source source_now : SourceKnown) (files files_now : FilesKnown) (failure : Failure) → CommandCause command w source source_now files files_now (Err failure) → command ≡ None → failure ≡ failures.Usage
+usage-answer None w source source_now files files_now failure h none = let same = h.0 in cc
+usage-answer (Some command) w source source_now files files_now failure h none = absurd cc
 
 no-zero : (failure : Failure) → status_of failure ≡ 0 → ⊥
 no-zero failures.Usage is = omega (arith, is)
@@ -277,34 +354,48 @@ deserved : (status code wanted : ℕ) → code ≡ status → (status ≡ wanted
 deserved status code wanted is (inl well) = inl (is ∙ well)
 deserved status code wanted is (inr memory) = inr (is ∙ memory)
 
-of-failure : (command : Option Command) (name : List ℕ) (source source_now : SourceKnown) (files files_now : FilesKnown) (out out_now err err_now : SinkKnown) (code : ℕ) (failure : Failure) → CommandCause command name source source_now files files_now (Err failure) → out_now.gained ≡ out.gained → Fails failure name err err_now code
-    → Statuses command name source source_now files files_now out out_now err err_now code
-of-failure command name source source_now files files_now out out_now err err_now code failure cause silent h =
-    let why = command-failed command source source_now files files_now name failure cause in
+of-failure : (w : Words) (before now : Outside) (code : ℕ) (failure : Failure) → CommandCause w.command w before.source now.source before.files now.files (Err failure) → now.out.gained ≡ before.out.gained → Fails failure w.name before.err now.err code
+    → Statuses w before now code
+of-failure w before now code failure cause silent h =
+    let why = command-failed w.command before.source now.source before.files now.files w failure cause in
+    let is_status = sym h.status in
     record {
-      usage = λ none. h.status ∙ ap status_of (usage-answer command name source source_now files files_now failure cause none);
-      usage_only = λ is. fails-usage command source source_now files files_now failure why (sym h.status ∙ is);
-      script_only = λ is. fails-script command source source_now files files_now name err err_now failure why h.told (sym h.status ∙ is);
-      refused_only = λ is. fails-refused command source source_now files files_now failure why (sym h.status ∙ is);
-      read_only = λ is. fails-read command source source_now files files_now failure why (sym h.status ∙ is);
-      input_only = λ is. fails-input command source source_now files files_now failure why (sym h.status ∙ is);
-      output_only = λ is. absurd (fails-output command source source_now files files_now failure why (sym h.status ∙ is));
-      open_only = λ is. fails-open command source source_now files files_now failure why (sym h.status ∙ is);
-      too_long_only = λ is. fails-long command source source_now files files_now failure why (sym h.status ∙ is);
+      usage = λ none. h.status ∙ ap status_of (usage-answer w.command w before.source now.source before.files now.files failure cause none);
+      usage_only = λ is. fails-usage w.command before.source now.source before.files now.files failure why (is_status ∙ is);
+      script_only = λ is. fails-script w.command before.source now.source before.files now.files w.name before.err now.err failure why h.told (is_status ∙ is);
+      file_only = λ is. fails-file w.command before.source now.source before.files now.files failure why (subst IsOfFile h.status is);
+      refused_only = λ is. fails-refused w.command before.source now.source before.files now.files failure why (is_status ∙ is);
+      read_only = λ is. fails-read w.command before.source now.source before.files now.files failure why (is_status ∙ is);
+      input_only = λ is. fails-input w.command before.source now.source before.files now.files failure why (is_status ∙ is);
+      output_only = λ is. absurd (fails-output w.command before.source now.source before.files now.files failure why (is_status ∙ is));
+      open_only = λ is. fails-open w.command before.source now.source before.files now.files failure why (is_status ∙ is);
+      too_long_only = λ is. fails-long w.command before.source now.source before.files now.files failure why (is_status ∙ is);
       silent = inl silent;
       told = inr (record { failure = failure; status = h.status; told = h.told });
-      served = λ serve is. absurd (no-zero failure (sym h.status ∙ is));
-      complete = λ serve text file well. deserved (status_of failure) code (wanted_status text (vx_grammar file)) h.status (failure-deserved command source source_now files files_now out out_now text file serve well failure why);
+      served = λ serve is. absurd (no-zero failure (is_status ∙ is));
+      shown = λ demo is. absurd (no-zero failure (is_status ∙ is));
+      complete = λ serve text file well. deserved (status_of failure) code (wanted_status text (vx_grammar file)) h.status
+          (failure-deserved w.command before.source now.source before.files now.files text file serve
+          (record { input = well.streams.input; bytes = well.bytes; input_steady = well.streams.input_steady; opens_steady = well.opens_steady; reads_steady = well.reads_steady }) failure why);
+      demo_complete = λ demo text well. deserved (status_of failure) code (wanted_status text (vx_grammar (written w.values))) h.status
+          (demo-deserved w.command before.source now.source before.files now.files text (vx_grammar (written w.values)) demo well.input well.input_steady failure why);
     }
 
 text-deserved : (name text file : List ℕ) (source source_now : SourceKnown) (files files_now : FilesKnown) (printed : List ℕ) → Gives name text file source_now files files_now printed → wanted_status text (vx_grammar file) ≡ 0
 text-deserved name text file source source_now files files_now printed h = wanted-file text (vx_grammar file) h.loads.steps h.loads.read.short h.loads.script h.loads.distinct ∙ ap file_status h.serves.footer
 
-of-printed : (command : Option Command) (name : List ℕ) (source source_now : SourceKnown) (files files_now : FilesKnown) (out out_now err err_now : SinkKnown) (code : ℕ) (printed : List ℕ) → TextCause command name source source_now files files_now printed → Prints printed out out_now err err_now code → Statuses command name source source_now files files_now out out_now err err_now code
-of-printed command name source source_now files files_now out out_now err err_now code printed cause h = let code_is = h.status in record {
+demo-text-deserved : (values : List ℤ) (text : List ℕ) (source_now : SourceKnown) (printed : List ℕ) → ShowsText values text source_now printed → wanted_status text (vx_grammar (written values)) ≡ 0
+demo-text-deserved values text source_now printed h = wanted-file text (vx_grammar (written values)) h.loads.steps h.loads.read.short h.loads.script h.loads.distinct ∙ ap file_status h.shows.holds.grammar
+
+abbrev pub Texts : Words → Outside → Outside → List ℕ → Type 0
+Texts w before now printed = TextCause w.command w before.source now.source before.files now.files printed
+
+of-printed : (w : Words) (before now : Outside) (code : ℕ) (printed : List ℕ) → Texts w before now printed → Prints printed before.out now.out before.err now.err code → Statuses w before now code
+of-printed w before now code printed cause h = let code_is = h.status in record {
   usage = λ none. absurd (cause.known none);
   usage_only = λ is. absurd (omega (arith, is, code_is));
   script_only = λ is. absurd (omega (arith, is, code_is));
+  file_only = λ is. absurd (no-file-at code (λ e. omega (arith, e, code_is)) (λ e. omega (arith, e, code_is)) (λ e. omega (arith, e, code_is)) is);
   refused_only = λ is. absurd (omega (arith, is, code_is));
   read_only = λ is. absurd (omega (arith, is, code_is));
   input_only = λ is. absurd (omega (arith, is, code_is));
@@ -314,14 +405,17 @@ of-printed command name source source_now files files_now out out_now err err_no
   silent = inr (inl h.status);
   told = inl (h.status, h.quiet);
   served = λ serve is text file told bytes. let g = cause.gives serve text file told bytes in record { steps = g.loads.steps; script = g.loads.script; distinct = g.loads.distinct; read = g.loads.read; asked = g.asked; printed = printed; serves = g.serves; took = h.took };
-  complete = λ serve text file well. inl (h.status ∙ sym (text-deserved name text file source source_now files files_now printed (cause.gives serve text file well.input well.bytes)));
+  shown = λ demo is text told. let g = cause.shows demo text told in record { steps = g.loads.steps; script = g.loads.script; distinct = g.loads.distinct; read = g.loads.read; printed = printed; shows = g.shows; took = h.took };
+  complete = λ serve text file well. inl (h.status ∙ sym (text-deserved w.name text file before.source now.source before.files now.files printed (cause.gives serve text file well.streams.input well.bytes)));
+  demo_complete = λ demo text well. inl (h.status ∙ sym (demo-text-deserved w.values text now.source printed (cause.shows demo text well.input)));
 }
 
-of-cut : (command : Option Command) (name : List ℕ) (source source_now : SourceKnown) (files files_now : FilesKnown) (out out_now err err_now : SinkKnown) (code : ℕ) (printed : List ℕ) → TextCause command name source source_now files files_now printed → CutShort printed out out_now → Fails failures.Output name err err_now code → Statuses command name source source_now files files_now out out_now err err_now code
-of-cut command name source source_now files files_now out out_now err err_now code printed cause cut h = let code_is : code ≡ 7 = h.status in record {
+of-cut : (w : Words) (before now : Outside) (code : ℕ) (printed : List ℕ) → Texts w before now printed → CutShort printed before.out now.out → Fails failures.Output w.name before.err now.err code → Statuses w before now code
+of-cut w before now code printed cause cut h = let code_is : code ≡ 7 = h.status in record {
   usage = λ none. absurd (cause.known none);
   usage_only = λ is. absurd (omega (arith, is, code_is));
   script_only = λ is. absurd (omega (arith, is, code_is));
+  file_only = λ is. absurd (no-file-at code (λ e. omega (arith, e, code_is)) (λ e. omega (arith, e, code_is)) (λ e. omega (arith, e, code_is)) is);
   refused_only = λ is. absurd (omega (arith, is, code_is));
   read_only = λ is. absurd (omega (arith, is, code_is));
   input_only = λ is. absurd (omega (arith, is, code_is));
@@ -331,14 +425,17 @@ of-cut command name source source_now files files_now out out_now err err_now co
   silent = inr (inr (inl h.status));
   told = inr (record { failure = failures.Output; status = h.status; told = h.told });
   served = λ serve is. absurd (omega (arith, is, code_is));
-  complete = λ serve text file well. absurd (not-rising out.faults out_now.faults well.output_steady cut.rose);
+  shown = λ demo is. absurd (omega (arith, is, code_is));
+  complete = λ serve text file well. absurd (not-rising before.out.faults now.out.faults well.streams.output_steady cut.rose);
+  demo_complete = λ demo text well. absurd (not-rising before.out.faults now.out.faults well.output_steady cut.rose);
 }
 
-of-unfinished : (command : Option Command) (name : List ℕ) (source source_now : SourceKnown) (files files_now : FilesKnown) (out out_now err err_now : SinkKnown) (code : ℕ) (printed : List ℕ) → TextCause command name source source_now files files_now printed → Fails failures.OutOfMemory name err err_now code → Statuses command name source source_now files files_now out out_now err err_now code
-of-unfinished command name source source_now files files_now out out_now err err_now code printed cause h = let code_is : code ≡ 70 = h.status in record {
+of-unfinished : (w : Words) (before now : Outside) (code : ℕ) (printed : List ℕ) → Texts w before now printed → Fails failures.OutOfMemory w.name before.err now.err code → Statuses w before now code
+of-unfinished w before now code printed cause h = let code_is : code ≡ 70 = h.status in record {
   usage = λ none. absurd (cause.known none);
   usage_only = λ is. absurd (omega (arith, is, code_is));
   script_only = λ is. absurd (omega (arith, is, code_is));
+  file_only = λ is. absurd (no-file-at code (λ e. omega (arith, e, code_is)) (λ e. omega (arith, e, code_is)) (λ e. omega (arith, e, code_is)) is);
   refused_only = λ is. absurd (omega (arith, is, code_is));
   read_only = λ is. absurd (omega (arith, is, code_is));
   input_only = λ is. absurd (omega (arith, is, code_is));
@@ -348,19 +445,21 @@ of-unfinished command name source source_now files files_now out out_now err err
   silent = inr (inr (inr h.status));
   told = inr (record { failure = failures.OutOfMemory; status = h.status; told = h.told });
   served = λ serve is. absurd (omega (arith, is, code_is));
+  shown = λ demo is. absurd (omega (arith, is, code_is));
   complete = λ serve text file well. inr h.status;
+  demo_complete = λ demo text well. inr h.status;
 }
 
-of-text : (command : Option Command) (name : List ℕ) (source source_now : SourceKnown) (files files_now : FilesKnown) (out out_now err err_now : SinkKnown) (code : ℕ) (printed : List ℕ) → TextCause command name source source_now files files_now printed
-    → Prints printed out out_now err err_now code ⊎ ((CutShort printed out out_now × Fails failures.Output name err err_now code) ⊎ (Unfinished printed out out_now × Fails failures.OutOfMemory name err err_now code)) → Statuses command name source source_now files files_now out out_now err err_now code
-of-text command name source source_now files files_now out out_now err err_now code printed cause (inl h) = of-printed command name source source_now files files_now out out_now err err_now code printed cause h
-of-text command name source source_now files files_now out out_now err err_now code printed cause (inr (inl h)) = of-cut command name source source_now files files_now out out_now err err_now code printed cause h.0 h.1
-of-text command name source source_now files files_now out out_now err err_now code printed cause (inr (inr h)) = of-unfinished command name source source_now files files_now out out_now err err_now code printed cause h.1
+of-text : (w : Words) (before now : Outside) (code : ℕ) (printed : List ℕ) → Texts w before now printed
+    → Prints printed before.out now.out before.err now.err code ⊎ ((CutShort printed before.out now.out × Fails failures.Output w.name before.err now.err code) ⊎ (Unfinished printed before.out now.out × Fails failures.OutOfMemory w.name before.err now.err code)) → Statuses w before now code
+of-text w before now code printed cause (inl h) = of-printed w before now code printed cause h
+of-text w before now code printed cause (inr (inl h)) = of-cut w before now code printed cause h.0 h.1
+of-text w before now code printed cause (inr (inr h)) = of-unfinished w before now code printed cause h.1
 
-of_answer : (command : Option Command) (name : List ℕ) (source source_now : SourceKnown) (files files_now : FilesKnown) (out out_now err err_now : SinkKnown) (code : ℕ) (answer : Result (Vec ℕ Global) Failure) → CommandCause command name source source_now files files_now answer → Concludes answer name out out_now err err_now code → Statuses command name source source_now files files_now out out_now err err_now code
-of_answer command name source source_now files files_now out out_now err err_now code (Ok printed) cause h = of-text command name source source_now files files_now out out_now err err_now code printed.items (command-gives command name source source_now files files_now printed cause) h
-of_answer command name source source_now files files_now out out_now err err_now code (Err failure) cause h = of-failure command name source source_now files files_now out out_now err err_now code failure cause h.0 h.1
+of_answer : (w : Words) (before now : Outside) (code : ℕ) (answer : Result (Vec ℕ Global) Failure) → CommandCause w.command w before.source now.source before.files now.files answer → Concludes answer w.name before.out now.out before.err now.err code → Statuses w before now code
+of_answer w before now code (Ok printed) cause h = of-text w before now code printed.items (command-gives w.command w before.source now.source before.files now.files printed cause) h
+of_answer w before now code (Err failure) cause h = of-failure w before now code failure cause h.0 h.1
 
 -- the same, where the name that a failure tells is that of the words
-pub of_named : (command : Option Command) (name given : List ℕ) (source source_now : SourceKnown) (files files_now : FilesKnown) (out out_now err err_now : SinkKnown) (code : ℕ) (answer : Result (Vec ℕ Global) Failure) → CommandCause command name source source_now files files_now answer → given ≡ name → Concludes answer given out out_now err err_now code → Statuses command name source source_now files files_now out out_now err err_now code
-of_named command name given source source_now files files_now out out_now err err_now code answer cause same h = of_answer command name source source_now files files_now out out_now err err_now code answer cause (subst (λ n. Concludes answer n out out_now err err_now code) same h)
+pub of_named : (w : Words) (given : List ℕ) (before now : Outside) (code : ℕ) (answer : Result (Vec ℕ Global) Failure) → CommandCause w.command w before.source now.source before.files now.files answer → given ≡ w.name → Concludes answer given before.out now.out before.err now.err code → Statuses w before now code
+of_named w given before now code answer cause same h = of_answer w before now code answer cause (subst (λ n. Concludes answer n before.out now.out before.err now.err code) same h)

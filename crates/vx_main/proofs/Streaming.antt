@@ -6,7 +6,7 @@ use Rattle.std.proofs.Math.Seq.{take-add}
 use Rattle.vx_base.specs.Counts.{Rises}
 use Rattle.vx_main.specs.declared.input.InputError.{InputError}
 use Rattle.vx_main.specs.declared.input.InputError.TheVariants as errors
-use Rattle.vx_main.specs.Streams.{Took, TookPrefix, SourceKnown, ReadToEnd, TooLong, InputCause, most_input}
+use Rattle.vx_main.specs.Streams.{SourceKnown, ReadToEnd, TooLong, InputCause, most_input}
 
 -- ---- input
 
@@ -36,32 +36,6 @@ reading-ends r rest rest' text text' k k' n faults h t e none bound =
 pub reading-long : (r : List ℕ) (rest : Option (List ℕ)) (text : List ℕ) (k faults : ℕ) → Reading r rest text k → k ≡ most_input + 1 → TooLong r (record { rest = rest; faults = faults })
 reading-long r rest text k faults h e = record { long = omega (arith, h.2); taken = h.0 ∙ ap (λ m. Some (drop m r)) e }
 
--- ---- output
-
-pub took-more : (bytes : List ℕ) (k n : ℕ) (before now next : Option (List ℕ)) → Took (take k bytes) before now → next ≡ option_map (λ g. g ++ take n (drop k bytes)) now → Took (take (k + n) bytes) before next
-took-more bytes k n None now next h e = e ∙ ap (option_map (λ g. g ++ take n (drop k bytes))) h
-took-more bytes k n (Some gained) now next h e =
-    e ∙ ap (option_map (λ g. g ++ take n (drop k bytes))) h ∙ ap Some (append_assoc gained (take k bytes) (take n (drop k bytes)) ∙ ap (λ x. gained ++ x) (sym (take-add k n bytes)))
-
-take-whole : (bytes : List ℕ) → take (length bytes) bytes ≡ bytes
-take-whole bytes = sym (append-nil (take (length bytes) bytes)) ∙ sym (ap (λ x. take (length bytes) bytes ++ x) (drop_all (length bytes) bytes (omega arith))) ∙ take-append-drop (length bytes) bytes
-
-pub took-prefix : (bytes : List ℕ) (before now : Option (List ℕ)) → Took bytes before now → TookPrefix bytes before now
-took-prefix bytes before now h = record { count = length bytes; took = subst (λ x. Took x before now) (sym (take-whole bytes)) h }
-
-pub took-whole : (bytes : List ℕ) (k : ℕ) (before now : Option (List ℕ)) → k ≡ length bytes → Took (take k bytes) before now → Took bytes before now
-took-whole bytes k before now e h = subst (λ x. Took x before now) (ap (λ m. take m bytes) e ∙ take-whole bytes) h
-
-nothing-took : (gained : Option (List ℕ)) → gained ≡ option_map (λ g. g ++ []) gained
-nothing-took None = refl
-nothing-took (Some g) = ap Some (sym (append-nil g))
-
-pub took-nothing : (bytes : List ℕ) (gained : Option (List ℕ)) → Took (take 0 bytes) gained gained
-took-nothing bytes gained = nothing-took gained
-
-pub prefix-kept : (bytes : List ℕ) (k : ℕ) (before now next : Option (List ℕ)) → Took (take k bytes) before now → next ≡ now → TookPrefix bytes before next
-prefix-kept bytes k before now next h e = record { count = k; took = e ∙ h }
-
 -- ---- faults of an input
 
 pub rises-from : (start before now : ℕ) → start ≤ before → Rises 1 before now → Rises 1 start now
@@ -71,23 +45,3 @@ pub err-cause : {A : Type 0} (view : A → List ℕ) (before now : SourceKnown) 
 err-cause view before now errors.Failed failed short = failed refl
 err-cause view before now errors.TooLong failed short = absurd (short refl)
 err-cause view before now errors.OutOfMemory failed short = tt
-
--- ---- one turn of writing
-
--- the bytes behind the first ones are still to be written
-pub record Written (bytes left : List ℕ) (before now : Option (List ℕ)) : Type 0 where
-  pub rest : left ≡ drop (length bytes - length left) bytes
-  pub fewer : length left ≤ length bytes
-  pub took : Took (take (length bytes - length left) bytes) before now
-
-pub write-turn : (bytes rest rest' : List ℕ) (n : ℕ) (before now next : Option (List ℕ)) → rest ≡ drop (length bytes - length rest) bytes → length rest ≤ length bytes → Took (take (length bytes - length rest) bytes) before now
-    → n ≤ length rest → rest' ≡ drop n rest → next ≡ option_map (λ g. g ++ take n rest) now → Written bytes rest' before next
-write-turn bytes rest rest' n before now next is fewer took le moved taken =
-    let k = length bytes - length rest in
-    let size : length rest' ≡ length rest - n = ap length moved ∙ length-drop n rest in
-    let place : k + n ≡ length bytes - length rest' = omega (arith, size) in
-    record {
-      rest = moved ∙ ap (drop n) is ∙ drop-drop n k bytes ∙ ap (λ m. drop m bytes) place;
-      fewer = omega (arith, size);
-      took = subst (λ m. Took (take m bytes) before next) place (took-more bytes k n before now next took (taken ∙ ap (λ x. option_map (λ g. g ++ take n x) now) is));
-    }

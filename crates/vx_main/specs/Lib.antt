@@ -1,4 +1,5 @@
 pub mod Command
+pub mod Demo
 pub mod Reading
 pub mod Render
 pub mod Run

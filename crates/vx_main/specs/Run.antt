@@ -1,10 +1,11 @@
 -- What a run of the program answers.
-use Rattle.std.specs.Prelude.{◌≡◌, ℕ, true, false, List, [], ◌∷◌, ◌++◌, length, codes, decimal, Option, Some, None, Result, Ok, Err, IsErr, ◌⊎◌, Vec}
+use Rattle.std.specs.Prelude.{◌≡◌, ℕ, ℤ, true, false, List, [], ◌∷◌, ◌++◌, length, codes, decimal, Option, Some, None, Result, Ok, Err, IsErr, ◌⊎◌, Vec}
 use Rattle.std.specs.Global.{Global}
 use Rattle.std.specs.Option.{option_map}
 use Rattle.vx_base.specs.Asking.{Log}
 use Rattle.vx_base.specs.Counts.{Rises}
 use Rattle.vx_base.specs.Returning.{Returned}
+use Rattle.vx_base.specs.Taking.{SinkKnown, Took, TookPrefix}
 use Rattle.vx_footer.specs.Opening.{vx_grammar}
 use Rattle.vx_file.specs.declared.fault.Fault.{Fault}
 use Rattle.vx_file.specs.declared.fault.Place.{Place}
@@ -16,12 +17,14 @@ use Rattle.vx_file.specs.Fits.{Fits}
 use Rattle.vx_file.specs.Serving.{asked, world_of, tail_ranges, repeats}
 use Rattle.vx_file.specs.Turns.{bad_replies}
 use Rattle.vx_main.specs.declared.command.Command.{Command}
-use Rattle.vx_main.specs.declared.command.Command.TheVariants.{Help, Version, Serve}
+use Rattle.vx_main.specs.declared.command.Command.TheVariants.{Help, Version, Serve, Demo}
+use Rattle.vx_main.specs.Command.{Words}
+use Rattle.vx_main.specs.Demo.{DemoText}
 use Rattle.vx_main.specs.declared.failure.Failure.{Failure}
 use Rattle.vx_main.specs.declared.failure.Failure.TheVariants as failures
 use Rattle.vx_main.specs.Render.{render_text, fault_words}
 use Rattle.vx_main.specs.Script.{script_of}
-use Rattle.vx_main.specs.Streams.{SourceKnown, ReadToEnd, TooLong, Took, TookPrefix}
+use Rattle.vx_main.specs.Streams.{SourceKnown, ReadToEnd, TooLong}
 
 -- ---- statuses and their texts
 
@@ -59,10 +62,10 @@ words_of failures.OutOfMemory name = codes "memory"
 
 -- the text on the error stream
 abbrev pub message_of : Failure → List ℕ → List ℕ
-message_of failure name = codes "vx: " ++ words_of failure name ++ 10 ∷ []
+message_of failure name = codes "vx: " ++ words_of failure name ++ codes "\n"
 
 abbrev pub help_text : List ℕ
-help_text = codes "usage: vx serve NAME\n\nServes the file NAME: reads a script from standard input, a step a line\n(r SEGMENT registers, p NUMBER polls, go drives), and prints the footer and\none reply per step.\n"
+help_text = codes "usage: vx serve NAME\n       vx demo V ..\n\nserve reads a script from standard input, a step a line (r SEGMENT registers,\np NUMBER polls, go drives), and prints the footer of the file NAME and one\nreply per step. demo does the same with a file of the values V, numbers of 32\nbits, which it writes to memory.\n"
 
 abbrev pub version_text : List ℕ
 version_text = codes "vx 0.1.0\n"
@@ -142,23 +145,35 @@ IsText text (Ok answer) = answer.items ≡ text
 IsText text (Err failures.OutOfMemory) = Unit {0}
 IsText text (Err _) = ⊥
 
-abbrev pub CommandCause : Option Command → List ℕ → SourceKnown → SourceKnown → FilesKnown → FilesKnown → Result (Vec ℕ Global) Failure → Type 0
-CommandCause None name source source_now files files_now answer = (answer ≡ Err failures.Usage) × PlainCause source source_now files files_now
-CommandCause (Some Help) name source source_now files files_now answer = IsText help_text answer × PlainCause source source_now files files_now
-CommandCause (Some Version) name source source_now files files_now answer = IsText version_text answer × PlainCause source source_now files files_now
-CommandCause (Some Serve) name source source_now files files_now answer = ServeCause name source source_now files files_now answer
+-- the script came first: where it fails, no file is written
+abbrev pub DemoAnswer : List ℤ → Result (Vec Step Global) Failure → Result (Vec ℕ Global) Failure → Type 0
+DemoAnswer values (Ok steps) answer = (repeats [] steps.items ≡ false) × DemoText values steps.items answer
+DemoAnswer values (Err failure) answer = answer ≡ Err failure
+
+-- the answer of a demo command has its cause: no file is opened
+pub record DemoCause (values : List ℤ) (source source_now : SourceKnown) (files files_now : FilesKnown) (answer : Result (Vec ℕ Global) Failure) : Type 0 where
+  pub script : Result (Vec Step Global) Failure
+  pub read : ScriptCause source source_now script
+  pub unopened : Untouched files files_now
+  pub answered : DemoAnswer values script answer
+
+abbrev pub CommandCause : Option Command → Words → SourceKnown → SourceKnown → FilesKnown → FilesKnown → Result (Vec ℕ Global) Failure → Type 0
+CommandCause None w source source_now files files_now answer = (answer ≡ Err failures.Usage) × PlainCause source source_now files files_now
+CommandCause (Some Help) w source source_now files files_now answer = IsText help_text answer × PlainCause source source_now files files_now
+CommandCause (Some Version) w source source_now files files_now answer = IsText version_text answer × PlainCause source source_now files files_now
+CommandCause (Some Serve) w source source_now files files_now answer = ServeCause w.name source source_now files files_now answer
+CommandCause (Some Demo) w source source_now files files_now answer = DemoCause w.values source source_now files files_now answer
 
 -- ---- what is written of the answer
 
--- what a sink knows: the bytes that it took, and its count of faults
-pub record SinkKnown : Type 0 where
-  pub gained : Option (List ℕ)
-  pub faults : ℕ
+-- a text was written whole, or a prefix of it where a call of the stream failed or found no memory
+abbrev pub Tells : List ℕ → SinkKnown → SinkKnown → Type 0
+Tells text before now = Took text before.gained now.gained ⊎ (TookPrefix text before.gained now.gained × (Rises 1 before.faults now.faults ⊎ Rises 1 before.without_memory now.without_memory))
 
--- a failure has its status; its text, or a prefix of it, stands on the error stream
+-- a failure has its status, and its text stands on the error stream
 pub record Fails (failure : Failure) (name : List ℕ) (err err_now : SinkKnown) (code : ℕ) : Type 0 where
   pub status : code ≡ status_of failure
-  pub told : TookPrefix (message_of failure name) err.gained err_now.gained
+  pub told : Tells (message_of failure name) err err_now
 
 -- the text was written whole
 pub record Prints (text : List ℕ) (out out_now err err_now : SinkKnown) (code : ℕ) : Type 0 where
@@ -171,9 +186,10 @@ pub record CutShort (text : List ℕ) (out out_now : SinkKnown) : Type 0 where
   pub took : TookPrefix text out.gained out_now.gained
   pub rose : Rises 1 out.faults out_now.faults
 
--- memory was wanting for a write, and a prefix of the text stands on the output
-abbrev pub Unfinished : List ℕ → SinkKnown → SinkKnown → Type 0
-Unfinished text out out_now = TookPrefix text out.gained out_now.gained
+-- a write found no memory, and a prefix of the text stands on the output
+pub record Unfinished (text : List ℕ) (out out_now : SinkKnown) : Type 0 where
+  pub took : TookPrefix text out.gained out_now.gained
+  pub rose : Rises 1 out.without_memory out_now.without_memory
 
 -- the status, the output and the error stream are those of the answer
 abbrev pub Concludes : Result (Vec ℕ Global) Failure → List ℕ → SinkKnown → SinkKnown → SinkKnown → SinkKnown → ℕ → Type 0
@@ -184,9 +200,16 @@ Concludes (Ok text) name out out_now err err_now status =
 
 -- ---- a run
 
+-- what the streams and the opener know
+pub record Outside : Type 0 where
+  pub source : SourceKnown
+  pub files : FilesKnown
+  pub out : SinkKnown
+  pub err : SinkKnown
+
 -- a run of the program: there is an answer that has its cause, and the status, the output and the error
 -- stream are those of it
-pub record Runs (command : Option Command) (name : List ℕ) (source source_now : SourceKnown) (files files_now : FilesKnown) (out out_now err err_now : SinkKnown) (code : ℕ) : Type 0 where
+pub record Runs (w : Words) (before now : Outside) (code : ℕ) : Type 0 where
   pub answer : Result (Vec ℕ Global) Failure
-  pub cause : CommandCause command name source source_now files files_now answer
-  pub concludes : Concludes answer name out out_now err err_now code
+  pub cause : CommandCause w.command w before.source now.source before.files now.files answer
+  pub concludes : Concludes answer w.name before.out now.out before.err now.err code

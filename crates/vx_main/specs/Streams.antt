@@ -1,6 +1,5 @@
 -- What streams took and gave.
 use Rattle.std.specs.Prelude.{◌≡◌, ℕ, ◌+◌, ◌≤◌, ◌<◌, List, [], ◌++◌, length, take, drop, Option, Some, Result, Ok, Err}
-use Rattle.std.specs.Option.{option_map}
 use Rattle.vx_base.specs.Counts.{Rises}
 use Rattle.vx_main.specs.declared.input.InputError.{InputError}
 use Rattle.vx_main.specs.declared.input.InputError.TheVariants as errors
@@ -30,12 +29,3 @@ InputCause view before now (Ok read) = (text : List ℕ) → before.rest ≡ Som
 InputCause view before now (Err errors.Failed) = Rises 1 before.faults now.faults
 InputCause view before now (Err errors.TooLong) = (text : List ℕ) → before.rest ≡ Some text → TooLong text now
 InputCause view before now (Err errors.OutOfMemory) = Unit {0}
-
--- a sink took these bytes
-abbrev pub Took : List ℕ → Option (List ℕ) → Option (List ℕ) → Type 0
-Took bytes before now = now ≡ option_map (λ g. g ++ bytes) before
-
--- a sink took a prefix of these bytes
-pub record TookPrefix (bytes : List ℕ) (before now : Option (List ℕ)) : Type 0 where
-  pub count : ℕ
-  pub took : Took (take count bytes) before now

@@ -1,10 +1,11 @@
 //! Why the program fails: its statuses and their texts.
-ghost use Rattle.std.specs.Prelude.{◌≡◌, ◌++◌, codes, decimal, OnOk, IfOk};
-ghost use Rattle.vx_main.specs.Run.{status_of, words_of, message_of, read_words};
+ghost use Rattle.std.specs.Prelude.{◌≡◌};
+ghost use Rattle.vx_main.specs.Run.{Tells, status_of, message_of};
 
-use crate::render::{put_fault, put_number};
+use crate::telling::{tell, tell_line, tell_name, tell_read};
 use std::alloc::{AllocError, Global};
-use vx_file::{Fault, Place};
+use vx_base::Sink;
+use vx_file::Fault;
 
 /// Why no text was printed, or not all of it.
 #[derive(Clone, Copy, Debug, PartialEq, Eq)]
@@ -59,54 +60,21 @@ impl Failure {
         }
     }
 
-    fn put_words(&self, text: &mut Vec<u8>, name: &str) -> Result<(), AllocError>
-        ensures { OnOk result (text.new.items ≡ text.old.items ++ words_of self.now name.now) }
+    /// Writes the line for the error stream. What the stream answers changes nothing.
+    pub(crate) fn tell<E: Sink>(&self, alloc: Global, err: &mut E, name: &str)
+        ensures { Tells (message_of self.now name.now) (record { gained = E.gained err.old; faults = E.faults err.old; without_memory = E.without_memory err.old }) (record { gained = E.gained err.new; faults = E.faults err.new; without_memory = E.without_memory err.new }) }
     {
         match self {
-            Failure::Usage => text.extend_from_slice(b"usage"),
-            Failure::Line(line) => put_bad_line(text, *line),
-            Failure::Script => text.extend_from_slice(b"script"),
-            Failure::Refused => text.extend_from_slice(b"Refused"),
-            Failure::Read(fault) => put_read(text, fault),
-            Failure::Input => text.extend_from_slice(b"input"),
-            Failure::Output => text.extend_from_slice(b"output"),
-            Failure::Open => put_open(text, name),
-            Failure::InputTooLong => text.extend_from_slice(b"input too long"),
-            Failure::OutOfMemory => text.extend_from_slice(b"memory"),
+            Failure::Usage => tell(alloc, err, &[b"vx: usage\n".as_slice()]),
+            Failure::Line(line) => tell_line(alloc, err, *line),
+            Failure::Script => tell(alloc, err, &[b"vx: script\n".as_slice()]),
+            Failure::Refused => tell(alloc, err, &[b"vx: Refused\n".as_slice()]),
+            Failure::Read(fault) => tell_read(alloc, err, fault),
+            Failure::Input => tell(alloc, err, &[b"vx: input\n".as_slice()]),
+            Failure::Output => tell(alloc, err, &[b"vx: output\n".as_slice()]),
+            Failure::Open => tell_name(alloc, err, name),
+            Failure::InputTooLong => tell(alloc, err, &[b"vx: input too long\n".as_slice()]),
+            Failure::OutOfMemory => tell(alloc, err, &[b"vx: memory\n".as_slice()]),
         }
-    }
-
-    /// The line for the error stream.
-    pub(crate) fn message(&self, alloc: Global, name: &str) -> Result<Vec<u8>, AllocError>
-        ensures { IfOk result (λ text. text.items ≡ message_of self.now name.now) }
-    {
-        let mut text = Vec::from_slice(alloc, b"vx: ")?;
-        self.put_words(&mut text, name)?;
-        text.push(b'\n')?;
-        Ok(text)
-    }
-}
-
-fn put_bad_line(text: &mut Vec<u8>, line: u64) -> Result<(), AllocError>
-    ensures { OnOk result (text.new.items ≡ text.old.items ++ (codes "line " ++ decimal line)) }
-{
-    text.extend_from_slice(b"line ")?;
-    put_number(text, line)
-}
-
-fn put_open(text: &mut Vec<u8>, name: &str) -> Result<(), AllocError>
-    ensures { OnOk result (text.new.items ≡ text.old.items ++ (codes "open " ++ name.now)) }
-{
-    text.extend_from_slice(b"open ")?;
-    text.extend_from_slice(name.as_bytes())
-}
-
-fn put_read(text: &mut Vec<u8>, fault: &Fault) -> Result<(), AllocError>
-    ensures { OnOk result (text.new.items ≡ text.old.items ++ (codes "read " ++ read_words fault.now)) }
-{
-    text.extend_from_slice(b"read ")?;
-    match fault.place {
-        Place::Size => text.extend_from_slice(b"size"),
-        Place::Range { .. } => put_fault(text, fault),
     }
 }

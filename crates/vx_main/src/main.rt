@@ -2,13 +2,14 @@
 #![tactic(auto)]
 
 mod command;
+mod demo;
 mod failure;
 mod input;
-mod output;
 mod render;
 mod repeats;
 mod run;
 mod script;
+mod telling;
 #[cfg(test)]
 mod tests;
 

@@ -2,25 +2,25 @@
 ghost use Rattle.std.specs.Prelude.{◌≡◌, ◌≢◌, ◌≤◌, ◌<◌, ℕ, List, [], map, string_bytes, false, true, Some, None, IsErr, IsOk, IfOk, ◌⊎◌};
 ghost use Rattle.vx_base.specs.Counts.{Rises};
 ghost use Rattle.vx_file.specs.Serving.{repeats};
-ghost use Rattle.vx_main.specs.Command.{command_of, name_of};
+ghost use Rattle.vx_main.specs.Command.{command_of, name_of, words_of};
 ghost use Rattle.vx_main.specs.Run.{ScriptCause, FileCause, CommandCause, Concludes, Fails, Runs, help_text, version_text, IsText};
 ghost use Rattle.vx_main.specs.Statuses.{Statuses};
 ghost use Rattle.vx_main.specs.Reading.{ReaderCause, ReaderFault, script_failure, StepsCause};
 ghost use Rattle.vx_main.specs.declared.command.Command.TheVariants.{Serve};
 
-use crate::command::{Command, command_from, name_from};
+use crate::command::{Command, command_from, name_from, values_from};
+use crate::demo::demonstrate;
 use crate::failure::Failure;
 use crate::input::{InputError, read_input};
-use crate::output::print;
 use crate::render::render;
 use crate::repeats::has_repeats;
 use crate::script::{self, ScriptError};
 use std::alloc::{AllocError, Global};
-use vx_base::{Opener, OpenerError, Reader, Sink, SinkError, Source};
+use vx_base::{Opener, OpenerError, Reader, Sink, SinkError, Source, write_flushed};
 use vx_file::{ServeError, Step, serve};
 
 const HELP: &[u8] =
-    b"usage: vx serve NAME\n\nServes the file NAME: reads a script from standard input, a step a line\n(r SEGMENT registers, p NUMBER polls, go drives), and prints the footer and\none reply per step.\n";
+    b"usage: vx serve NAME\n       vx demo V ..\n\nserve reads a script from standard input, a step a line (r SEGMENT registers,\np NUMBER polls, go drives), and prints the footer of the file NAME and one\nreply per step. demo does the same with a file of the values V, numbers of 32\nbits, which it writes to memory.\n";
 
 const VERSION: &[u8] = b"vx 0.1.0\n";
 
@@ -113,7 +113,7 @@ fn produce<I: Source, F: Opener>(
     input: &mut I,
     files: &mut F,
 ) -> Result<Vec<u8>, Failure>
-    ensures cause { CommandCause (command_of (map string_bytes words.now)) (name_of (map string_bytes words.now)) (record { rest = I.rest input.old; faults = I.faults input.old }) (record { rest = I.rest input.new; faults = I.faults input.new })
+    ensures cause { CommandCause (command_of (map string_bytes words.now)) (words_of (map string_bytes words.now)) (record { rest = I.rest input.old; faults = I.faults input.old }) (record { rest = I.rest input.new; faults = I.faults input.new })
         (record { file = F.file files.old (name_of (map string_bytes words.now)); asked = F.asked files.old; returned = F.returned files.old; faults = F.faults files.old; read_faults = F.read_faults files.old }) (record { file = F.file files.new (name_of (map string_bytes words.now)); asked = F.asked files.new; returned = F.returned files.new; faults = F.faults files.new; read_faults = F.read_faults files.new }) result }
 {
     match command_from(words) {
@@ -124,16 +124,19 @@ fn produce<I: Source, F: Opener>(
             let script = load_script(alloc, input)?;
             serve_name(alloc, files, name_from(words), script.as_slice())
         }
+        Some(Command::Demo) => {
+            let script = load_script(alloc, input)?;
+            let values = values_from(alloc, words)?;
+            demonstrate(alloc, values.as_slice(), script.as_slice())
+        }
     }
 }
 
 /// Writes a failure's text, and gives its status. A failing write changes no status.
 fn fail<E: Sink>(alloc: Global, err: &mut E, failure: Failure, name: &str) -> u8
-    ensures { Fails failure name.now (record { gained = E.gained err.old; faults = E.faults err.old }) (record { gained = E.gained err.new; faults = E.faults err.new }) result }
+    ensures { Fails failure name.now (record { gained = E.gained err.old; faults = E.faults err.old; without_memory = E.without_memory err.old }) (record { gained = E.gained err.new; faults = E.faults err.new; without_memory = E.without_memory err.new }) result }
 {
-    if let Ok(message) = failure.message(alloc, name) {
-        let _ = print(alloc, err, message.as_slice());
-    }
+    failure.tell(alloc, err, name);
     failure.status()
 }
 
@@ -145,21 +148,21 @@ fn conclude<O: Sink, E: Sink>(
     out: &mut O,
     err: &mut E,
 ) -> u8
-    ensures { Concludes answer name.now (record { gained = O.gained out.old; faults = O.faults out.old }) (record { gained = O.gained out.new; faults = O.faults out.new }) (record { gained = E.gained err.old; faults = E.faults err.old }) (record { gained = E.gained err.new; faults = E.faults err.new }) result }
+    ensures { Concludes answer name.now (record { gained = O.gained out.old; faults = O.faults out.old; without_memory = O.without_memory out.old }) (record { gained = O.gained out.new; faults = O.faults out.new; without_memory = O.without_memory out.new }) (record { gained = E.gained err.old; faults = E.faults err.old; without_memory = E.without_memory err.old }) (record { gained = E.gained err.new; faults = E.faults err.new; without_memory = E.without_memory err.new }) result }
 {
     let text = match answer {
         Ok(text) => text,
         Err(failure) => return fail(alloc, err, failure, name),
     };
-    match print(alloc, out, text.as_slice()) {
+    match write_flushed(alloc, out, text.as_slice()) {
         Ok(()) => 0,
         Err(SinkError::Failed) => fail(alloc, err, Failure::Output, name),
         Err(SinkError::OutOfMemory) => fail(alloc, err, Failure::OutOfMemory, name),
     }
 }
 
-/// Runs the program: serves the file that the words name by the script from `input`, writes to `out`
-/// what was served or to `err` why not, and gives the exit status.
+/// Runs the program: serves the file that the words name, or one of the values that they spell, by the
+/// script from `input`, writes to `out` what was served or to `err` why not, and gives the exit status.
 pub fn run<I: Source, F: Opener, O: Sink, E: Sink>(
     alloc: Global,
     words: &[String],
@@ -169,13 +172,31 @@ pub fn run<I: Source, F: Opener, O: Sink, E: Sink>(
     err: &mut E,
 ) -> u8
     // There is an answer that has its cause, and the status and what was written are those of it.
-    ensures cause { Runs (command_of (map string_bytes words.now)) (name_of (map string_bytes words.now)) (record { rest = I.rest input.old; faults = I.faults input.old }) (record { rest = I.rest input.new; faults = I.faults input.new })
-        (record { file = F.file files.old (name_of (map string_bytes words.now)); asked = F.asked files.old; returned = F.returned files.old; faults = F.faults files.old; read_faults = F.read_faults files.old }) (record { file = F.file files.new (name_of (map string_bytes words.now)); asked = F.asked files.new; returned = F.returned files.new; faults = F.faults files.new; read_faults = F.read_faults files.new })
-        (record { gained = O.gained out.old; faults = O.faults out.old }) (record { gained = O.gained out.new; faults = O.faults out.new }) (record { gained = E.gained err.old; faults = E.faults err.old }) (record { gained = E.gained err.new; faults = E.faults err.new }) result }
+    ensures cause { Runs (words_of (map string_bytes words.now)) (record {
+      source = record { rest = I.rest input.old; faults = I.faults input.old };
+      files = record { file = F.file files.old (name_of (map string_bytes words.now)); asked = F.asked files.old; returned = F.returned files.old; faults = F.faults files.old; read_faults = F.read_faults files.old };
+      out = record { gained = O.gained out.old; faults = O.faults out.old; without_memory = O.without_memory out.old };
+      err = record { gained = E.gained err.old; faults = E.faults err.old; without_memory = E.without_memory err.old };
+    })
+        (record {
+          source = record { rest = I.rest input.new; faults = I.faults input.new };
+          files = record { file = F.file files.new (name_of (map string_bytes words.now)); asked = F.asked files.new; returned = F.returned files.new; faults = F.faults files.new; read_faults = F.read_faults files.new };
+          out = record { gained = O.gained out.new; faults = O.faults out.new; without_memory = O.without_memory out.new };
+          err = record { gained = E.gained err.new; faults = E.faults err.new; without_memory = E.without_memory err.new };
+        }) result }
     // What each exit status says.
-    ensures statuses { Statuses (command_of (map string_bytes words.now)) (name_of (map string_bytes words.now)) (record { rest = I.rest input.old; faults = I.faults input.old }) (record { rest = I.rest input.new; faults = I.faults input.new })
-        (record { file = F.file files.old (name_of (map string_bytes words.now)); asked = F.asked files.old; returned = F.returned files.old; faults = F.faults files.old; read_faults = F.read_faults files.old }) (record { file = F.file files.new (name_of (map string_bytes words.now)); asked = F.asked files.new; returned = F.returned files.new; faults = F.faults files.new; read_faults = F.read_faults files.new })
-        (record { gained = O.gained out.old; faults = O.faults out.old }) (record { gained = O.gained out.new; faults = O.faults out.new }) (record { gained = E.gained err.old; faults = E.faults err.old }) (record { gained = E.gained err.new; faults = E.faults err.new }) result }
+    ensures statuses { Statuses (words_of (map string_bytes words.now)) (record {
+      source = record { rest = I.rest input.old; faults = I.faults input.old };
+      files = record { file = F.file files.old (name_of (map string_bytes words.now)); asked = F.asked files.old; returned = F.returned files.old; faults = F.faults files.old; read_faults = F.read_faults files.old };
+      out = record { gained = O.gained out.old; faults = O.faults out.old; without_memory = O.without_memory out.old };
+      err = record { gained = E.gained err.old; faults = E.faults err.old; without_memory = E.without_memory err.old };
+    })
+        (record {
+          source = record { rest = I.rest input.new; faults = I.faults input.new };
+          files = record { file = F.file files.new (name_of (map string_bytes words.now)); asked = F.asked files.new; returned = F.returned files.new; faults = F.faults files.new; read_faults = F.read_faults files.new };
+          out = record { gained = O.gained out.new; faults = O.faults out.new; without_memory = O.without_memory out.new };
+          err = record { gained = E.gained err.new; faults = E.faults err.new; without_memory = E.without_memory err.new };
+        }) result }
 {
     let answer = produce(alloc, words, input, files);
     conclude(alloc, answer, name_from(words), out, err)

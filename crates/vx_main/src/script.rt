@@ -49,7 +49,7 @@ fn is_plain(text: &[u8]) -> bool
 
 /// The number that decimal digits spell, without sign or leading zero, below 2^64.
 #[tactic(auto, unfolding(crate::specs::Script::number_of))]
-fn number(text: &[u8]) -> Option<u64>
+pub(crate) fn number(text: &[u8]) -> Option<u64>
     ensures { result ≡ number_of text.now }
 {
     if !is_plain(text) {
