@@ -3,16 +3,15 @@ ghost use Rattle.std.specs.Prelude.{◌≡◌, ◌+◌, ◌<◌, ◌^◌, ◌∷
 ghost use Rattle.vx_footer.specs.Serialized.{ptype_number, id_pieces, flat_id, footer_pieces, locator_pieces, postscript_pieces, ptype_bytes, rows_bytes, ids_bytes, places_bytes, end_marker as end_marker_bytes, place, segment_of, placed, serialize_checks, serialized, joined, Gives};
 
 use crate::marker::{MAGIC, VERSION};
+use crate::opening::INTEGER;
 use crate::table::{Locator, Tables};
 use crate::{Footer, PType, SegmentSpecs, SerializeError, TextList};
 use std::alloc::{AllocError, Global};
 use vx_base::{Alignment, ByteBuffer, SegmentId};
 use vx_tables::TableWriter;
 
-/// The kind of an integer dtype.
-const INTEGER: u8 = 2;
-
-/// Tables lie at multiples of 2 to the power of this many bytes.
+/// The alignment exponent that the postscript says of each table. It is a mere claim: the tables lie one
+/// behind the other, without padding.
 const TABLE_EXPONENT: u8 = 3;
 
 /// The id of the one layout.
@@ -131,7 +130,7 @@ fn locator_table(alloc: Global, locator: &Locator) -> Result<TableWriter, AllocE
 /// The root of the postscript. It has the same length whatever the places are, so only memory
 /// refuses.
 #[tactic(auto, unfolding(crate::specs::Serialized::places_bytes))]
-fn postscript(alloc: Global, places: &Tables) -> Result<ByteBuffer, AllocError>
+fn postscript_table(alloc: Global, places: &Tables) -> Result<ByteBuffer, AllocError>
     ensures value { IfOk result (λ b. b.bytes ≡ places_bytes places.now) }
     ensures size { IfOk result (λ b. length b.bytes ≡ 113) }
 {
@@ -208,7 +207,7 @@ impl Footer {
         let layout = layout_table(alloc, self.row_count, self.segment)?;
         let footer = footer_table(alloc, &self.array_ids, &self.segments)?;
         let places = places_of(offset, &dtype, &layout, &footer)?;
-        let postscript = postscript(alloc, &places)?;
+        let postscript = postscript_table(alloc, &places)?;
         let marker = end_marker(alloc, postscript.len() as u16)?;
         let buffers = [dtype, layout, footer, postscript, marker];
         Ok(Vec::from_array(alloc, buffers)?)
