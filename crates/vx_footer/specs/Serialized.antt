@@ -100,7 +100,7 @@ postscript_bytes at f = places_bytes (places at (dtype_bytes f) (layout_bytes f)
 abbrev pub end_marker : ℕ → List ℕ
 end_marker size = to_le_bytes w16 1 ++ to_le_bytes w16 size ++ codes "VTXF"
 
--- the parts that follow the segments, where these end at an offset
+-- the parts that follow the segments, where the first begins at an offset
 abbrev pub parts : ℕ → Footer → List (List ℕ)
 parts at f = dtype_bytes f ∷ layout_bytes f ∷ footer_bytes f ∷ postscript_bytes at f ∷ end_marker (length (postscript_bytes at f)) ∷ []
 

@@ -10,8 +10,8 @@ use std::alloc::{AllocError, Global};
 use vx_base::{Alignment, ByteBuffer, SegmentId};
 use vx_tables::TableWriter;
 
-/// The alignment exponent that the postscript says of each table. It is a mere claim: the tables lie one
-/// behind the other, without padding.
+/// The alignment exponent that the postscript says of each table. It is a mere claim: the tables
+/// lie one behind the other, without padding.
 const TABLE_EXPONENT: u8 = 3;
 
 /// The id of the one layout.
@@ -201,8 +201,8 @@ fn places_of(
 impl Footer {
     /// The bytes that follow the segments of a file, where they begin at `offset`: the dtype table,
     /// the layout table, the footer's table, the postscript and the end marker, each in a buffer of
-    /// its own, which claims no alignment. A table of more than 2^32 - 1 bytes is refused, then tables that would end past
-    /// the offset 2^64 - 1.
+    /// its own that claims no alignment. A table of more than 2^32 - 1 bytes is refused, then
+    /// tables that would end past the offset 2^64 - 1.
     #[tactic(auto, unfolding(crate::specs::Serialized::serialize_checks))]
     pub fn serialize(&self, alloc: Global, offset: u64) -> Result<Vec<ByteBuffer>, SerializeError>
         ensures value { Gives (λ buffers. map (λ b. b.bytes) buffers.items) result (serialize_checks offset self.now) }
