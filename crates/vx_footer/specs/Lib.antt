@@ -1,5 +1,4 @@
 pub mod Tables
 pub mod Opening
 pub mod Serialized
-pub mod Refused
 pub mod Writable

@@ -1,10 +1,12 @@
 -- What is written of a footer: its tables, the postscript that says where they lie, and the end marker.
-use Rattle.std.specs.Prelude.{ℕ, ◌≡◌, false, ◌+◌, ◌^◌, nat_lt, if◌then◌else◌, List, [], ◌∷◌, ◌++◌, length, map, codes, Result, Ok, Err}
+use Rattle.std.specs.Prelude.{ℕ, ◌≡◌, ◌+◌, ◌^◌, false, nat_lt, if◌then◌else◌, List, [], ◌∷◌, ◌++◌, length, map, codes, Result, Ok, Err}
 use Rattle.std.specs.Int.{w8, w16, w32, w64, to_le_bytes}
 use Rattle.std.specs.List.{flat_map}
 use Rattle.vx_base.specs.declared.segment.SegmentSpec.{SegmentSpec}
 use Rattle.vx_base.specs.Buffer.{Buffer}
 use Rattle.vx_tables.specs.Block.{Piece, number, numbers, text, table, tables, segments, root_bytes}
+use Rattle.vx_tables.specs.declared.table_error.TableError.{TableError}
+use Rattle.vx_tables.specs.declared.table_error.TableError.TheVariants as refused
 use Rattle.vx_footer.specs.declared.footer.Footer.{Footer}
 use Rattle.vx_footer.specs.declared.ptype.PType.{PType}
 use Rattle.vx_footer.specs.declared.ptype.PType.TheVariants.{U8, U16, U32, U64, I8, I16, I32, I64}
@@ -74,7 +76,7 @@ footer_bytes f = ids_bytes f.array_ids f.segments
 
 -- ---- where the tables lie, one behind the other
 
--- a table's place, which is a multiple of 2^3 bytes
+-- a table's place; each claims an alignment of 2^3 bytes, wherever it lies
 abbrev pub place : ℕ → List ℕ → Locator
 place at bytes = record { offset = at; length = length bytes; exponent = 3; is_coded = false }
 
@@ -98,7 +100,7 @@ postscript_bytes at f = places_bytes (places at (dtype_bytes f) (layout_bytes f)
 abbrev pub end_marker : ℕ → List ℕ
 end_marker size = to_le_bytes w16 1 ++ to_le_bytes w16 size ++ codes "VTXF"
 
--- the parts that follow the segments, where these end at an offset
+-- the parts that follow the segments, where the first begins at an offset
 abbrev pub parts : ℕ → Footer → List (List ℕ)
 parts at f = dtype_bytes f ∷ layout_bytes f ∷ footer_bytes f ∷ postscript_bytes at f ∷ end_marker (length (postscript_bytes at f)) ∷ []
 
@@ -107,6 +109,11 @@ abbrev pub serialized : ℕ → Footer → List ℕ
 serialized at f = dtype_bytes f ++ layout_bytes f ++ footer_bytes f ++ postscript_bytes at f ++ end_marker (length (postscript_bytes at f))
 
 -- ---- refusals
+
+-- which refusal of a footer a refusal of a table is
+abbrev pub of_table : TableError → SerializeError
+of_table refused.TableTooLong = SegmentTooLong
+of_table refused.OutOfMemory = OutOfMemory
 
 infixl 10 ◌>>=◌
 abbrev pub ◌>>=◌ : {A B : Type 0} → Result A SerializeError → (A → Result B SerializeError) → Result B SerializeError

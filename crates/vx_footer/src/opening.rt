@@ -12,7 +12,8 @@ use crate::{Footer, OpenError, PType, SegmentSpecs, Which};
 use std::alloc::Global;
 use vx_base::{Alignment, SegmentId, SegmentSpec};
 
-const INTEGER: u8 = 2;
+/// The kind of an integer dtype.
+pub(crate) const INTEGER: u8 = 2;
 
 const MOST_IDS: usize = 16;
 

@@ -20,7 +20,7 @@ pub enum SerializeError {
 
 impl From<TableError> for SerializeError {
     ghost use Rattle.std.specs.Prelude.{◌≡◌};
-    ghost use Rattle.vx_footer.specs.Refused.{of_table};
+    ghost use Rattle.vx_footer.specs.Serialized.{of_table};
 
     ghost from_gives = { λ error e. e ≡ of_table error };
 

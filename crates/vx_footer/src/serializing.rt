@@ -1,18 +1,17 @@
 //! Writes a footer: its tables, the postscript that says where they lie, and the end marker.
-ghost use Rattle.std.specs.Prelude.{◌≡◌, ◌+◌, ◌<◌, ◌^◌, ◌∷◌, [], ◌++◌, IfOk, length, map, string_bytes};
+ghost use Rattle.std.specs.Prelude.{All, ◌≡◌, ◌+◌, ◌<◌, ◌^◌, ◌∷◌, [], ◌++◌, IfOk, length, map, string_bytes};
 ghost use Rattle.vx_footer.specs.Serialized.{ptype_number, id_pieces, flat_id, footer_pieces, locator_pieces, postscript_pieces, ptype_bytes, rows_bytes, ids_bytes, places_bytes, end_marker as end_marker_bytes, place, segment_of, placed, serialize_checks, serialized, joined, Gives};
 
 use crate::marker::{MAGIC, VERSION};
+use crate::opening::INTEGER;
 use crate::table::{Locator, Tables};
 use crate::{Footer, PType, SegmentSpecs, SerializeError, TextList};
 use std::alloc::{AllocError, Global};
 use vx_base::{Alignment, ByteBuffer, SegmentId};
 use vx_tables::TableWriter;
 
-/// The kind of an integer dtype.
-const INTEGER: u8 = 2;
-
-/// Tables lie at multiples of 2 to the power of this many bytes.
+/// The alignment exponent that the postscript says of each table. It is a mere claim: the tables
+/// lie one behind the other, without padding.
 const TABLE_EXPONENT: u8 = 3;
 
 /// The id of the one layout.
@@ -38,6 +37,7 @@ fn number_of(ptype: PType) -> u8
 fn dtype_table(alloc: Global, ptype: PType) -> Result<ByteBuffer, SerializeError>
     ensures value { Gives (λ b. b.bytes) result (segment_of (ptype_bytes ptype)) }
     ensures short { IfOk result (λ b. length b.bytes < 2 ^ 32) }
+    ensures unaligned { IfOk result (λ b. b.alignment ≡ 0) }
 {
     let mut table = TableWriter::new(alloc);
     table.push_u8(alloc, 0, INTEGER)?;
@@ -55,6 +55,7 @@ fn layout_table(
 ) -> Result<ByteBuffer, SerializeError>
     ensures value { Gives (λ b. b.bytes) result (segment_of (rows_bytes row_count segment.0)) }
     ensures short { IfOk result (λ b. length b.bytes < 2 ^ 32) }
+    ensures unaligned { IfOk result (λ b. b.alignment ≡ 0) }
 {
     let mut table = TableWriter::new(alloc);
     table.push_u16(alloc, 0, 0)?;
@@ -112,6 +113,7 @@ fn footer_table(
 ) -> Result<ByteBuffer, SerializeError>
     ensures value { Gives (λ b. b.bytes) result (segment_of (ids_bytes ids.now specs.now)) }
     ensures short { IfOk result (λ b. length b.bytes < 2 ^ 32) }
+    ensures unaligned { IfOk result (λ b. b.alignment ≡ 0) }
 {
     let table = ids_table(alloc, ids, specs)?;
     Ok(table.finish(alloc)?)
@@ -131,9 +133,10 @@ fn locator_table(alloc: Global, locator: &Locator) -> Result<TableWriter, AllocE
 /// The root of the postscript. It has the same length whatever the places are, so only memory
 /// refuses.
 #[tactic(auto, unfolding(crate::specs::Serialized::places_bytes))]
-fn postscript(alloc: Global, places: &Tables) -> Result<ByteBuffer, AllocError>
+fn postscript_table(alloc: Global, places: &Tables) -> Result<ByteBuffer, AllocError>
     ensures value { IfOk result (λ b. b.bytes ≡ places_bytes places.now) }
     ensures size { IfOk result (λ b. length b.bytes ≡ 113) }
+    ensures unaligned { IfOk result (λ b. b.alignment ≡ 0) }
 {
     let mut table = TableWriter::new(alloc);
     table.push_table(alloc, 0, locator_table(alloc, &places.dtype)?)?;
@@ -147,7 +150,8 @@ fn postscript(alloc: Global, places: &Tables) -> Result<ByteBuffer, AllocError>
 
 /// The end marker behind a postscript of `size` bytes.
 fn end_marker(alloc: Global, size: u16) -> Result<ByteBuffer, AllocError>
-    ensures { IfOk result (λ b. b.bytes ≡ end_marker_bytes size) }
+    ensures value { IfOk result (λ b. b.bytes ≡ end_marker_bytes size) }
+    ensures unaligned { IfOk result (λ b. b.alignment ≡ 0) }
 {
     let mut bytes = Vec::new(alloc);
     bytes.extend_from_slice(&VERSION.to_le_bytes())?;
@@ -197,18 +201,19 @@ fn places_of(
 impl Footer {
     /// The bytes that follow the segments of a file, where they begin at `offset`: the dtype table,
     /// the layout table, the footer's table, the postscript and the end marker, each in a buffer of
-    /// its own. A table of more than 2^32 - 1 bytes is refused, then tables that would end past
-    /// the offset 2^64 - 1.
+    /// its own that claims no alignment. A table of more than 2^32 - 1 bytes is refused, then
+    /// tables that would end past the offset 2^64 - 1.
     #[tactic(auto, unfolding(crate::specs::Serialized::serialize_checks))]
     pub fn serialize(&self, alloc: Global, offset: u64) -> Result<Vec<ByteBuffer>, SerializeError>
         ensures value { Gives (λ buffers. map (λ b. b.bytes) buffers.items) result (serialize_checks offset self.now) }
         ensures bytes { IfOk result (λ buffers. joined buffers.items ≡ serialized offset self.now) }
+        ensures unaligned { IfOk result (λ buffers. All (λ b. b.alignment ≡ 0) buffers.items) }
     {
         let dtype = dtype_table(alloc, self.ptype)?;
         let layout = layout_table(alloc, self.row_count, self.segment)?;
         let footer = footer_table(alloc, &self.array_ids, &self.segments)?;
         let places = places_of(offset, &dtype, &layout, &footer)?;
-        let postscript = postscript(alloc, &places)?;
+        let postscript = postscript_table(alloc, &places)?;
         let marker = end_marker(alloc, postscript.len() as u16)?;
         let buffers = [dtype, layout, footer, postscript, marker];
         Ok(Vec::from_array(alloc, buffers)?)
