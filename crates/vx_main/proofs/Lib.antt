@@ -4,3 +4,5 @@ pub mod Noting
 pub mod Runs
 pub mod Statuses
 pub mod Streaming
+mod FailureTexts
+mod DemoWords

@@ -55,9 +55,16 @@ fn negative(magnitude: u64) -> Option<i32>
 fn value_from(word: &str) -> Option<i32>
     ensures { result ≡ value_of word.now }
 {
-    match word.as_bytes() {
-        [b'-', digits @ ..] => negative(number(digits)?),
-        digits => positive(number(digits)?),
+    let bytes = word.as_bytes();
+    match bytes {
+        [] => None,
+        [first, digits @ ..] => {
+            if *first == b'-' {
+                negative(number(digits)?)
+            } else {
+                positive(number(bytes)?)
+            }
+        }
     }
 }
 
