@@ -1,11 +1,10 @@
 -- How many values the words of a demonstration spell.
-use Rattle.std.proofs.Common.{◌≡◌, ℕ, ◌+◌, ◌≤◌, Bool, true, false, cond, List, [], ◌∷◌, length, codes, Option, Some, None, refl, arith}
+use Rattle.std.proofs.Common.{◌≡◌, ℕ, ◌+◌, ◌≤◌, Bool, true, false, List, [], ◌∷◌, length, codes, Option, Some, None, refl, arith}
 use Rattle.std.specs.Prelude.{ℤ, ◌&&◌, nat_lt, nat_le, if◌then◌else◌, is_some, unwrap_or}
 use Rattle.std.specs.Str.{bytes_eq}
 use Rattle.std.proofs.lemmas.Bool.Decides.{nat_tests}
-use Rattle.vx_main.specs.declared.command.Command.{Command}
 use Rattle.vx_main.specs.declared.command.Command.TheVariants.{Help, Version, Serve, Demo}
-use Rattle.vx_main.specs.Command.{is_name, value_of, with_value, all_values, most_values, lone_command, serve_command, plain_command, demo_command, command_of, values_of}
+use Rattle.vx_main.specs.Command.{is_name, value_of, with_value, all_values, most_values, plain_command, demo_command, command_of, values_of}
 
 -- ---- other words are no demonstration
 

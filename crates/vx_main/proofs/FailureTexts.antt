@@ -1,6 +1,5 @@
 -- The texts of failures, piece by piece.
-use Rattle.std.proofs.Common.{◌≡◌, ℕ, List, [], ◌∷◌, ◌++◌, codes, decimal, refl, sym, ap, subst, ◌∙◌, append_assoc}
-use Rattle.std.proofs.lemmas.List.{append-nil}
+use Rattle.std.proofs.Common.{◌≡◌, ℕ, List, [], ◌∷◌, ◌++◌, codes, decimal, sym, ap, subst, ◌∙◌, append_assoc}
 use Rattle.vx_base.specs.FaultName.{fault_name}
 use Rattle.vx_base.specs.Taking.{SinkKnown}
 use Rattle.vx_file.specs.declared.fault.Fault.{Fault}

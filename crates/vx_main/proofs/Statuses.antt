@@ -12,12 +12,12 @@ use Rattle.vx_write.specs.Column.{written}
 use Rattle.vx_main.specs.declared.command.Command.{Command}
 use Rattle.vx_main.specs.declared.command.Command.TheVariants.{Help, Version, Serve, Demo}
 use Rattle.vx_main.specs.Command.{Words}
-use Rattle.vx_main.specs.Demo.{HoldsRows, Demonstrates, DemoText}
+use Rattle.vx_main.specs.Demo.{Demonstrates, DemoText}
 use Rattle.vx_main.specs.declared.failure.Failure.{Failure}
 use Rattle.vx_main.specs.declared.failure.Failure.TheVariants as failures
 use Rattle.vx_main.specs.Run.{status_of, FilesKnown, AskedOnce, ServesFile, ScriptCause, FileCause, LoadedCause, DemoAnswer, CommandCause, IsText, help_text, version_text, Concludes, Fails, Prints, CutShort, Unfinished, Outside}
 use Rattle.vx_main.specs.Script.{script_of}
-use Rattle.vx_main.specs.Statuses.{Told, NoScript, Steady, StreamsWell, AllWell, file_status, script_status, wanted_status, Statuses}
+use Rattle.vx_main.specs.Statuses.{Told, NoScript, Steady, file_status, script_status, wanted_status, Statuses}
 use Rattle.vx_main.specs.Streams.{SourceKnown, ReadToEnd, TooLong, most_input}
 
 -- ---- the cause of a failure

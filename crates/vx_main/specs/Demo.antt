@@ -1,5 +1,5 @@
 -- What demonstrating some values gives.
-use Rattle.std.specs.Prelude.{◌≡◌, ℕ, ℤ, false, List, [], length, Some, Result, Ok, Err, Vec}
+use Rattle.std.specs.Prelude.{◌≡◌, ℕ, ℤ, List, [], length, Some, Result, Ok, Err, Vec}
 use Rattle.std.specs.Global.{Global}
 use Rattle.vx_footer.specs.declared.footer.Footer.{Footer}
 use Rattle.vx_footer.specs.Opening.{vx_grammar}

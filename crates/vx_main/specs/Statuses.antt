@@ -1,5 +1,5 @@
 -- What each exit status of a run says.
-use Rattle.std.specs.Prelude.{◌≡◌, ℕ, ℤ, ◌<◌, true, false, List, [], length, nat_lt, if◌then◌else◌, Option, Some, None, Result, Ok, Err, IsErr, ◌⊎◌}
+use Rattle.std.specs.Prelude.{◌≡◌, ℕ, ℤ, ◌<◌, true, false, List, [], length, nat_lt, if◌then◌else◌, Some, None, Result, Ok, Err, IsErr, ◌⊎◌}
 use Rattle.vx_base.specs.Counts.{Rises, last_count}
 use Rattle.vx_base.specs.Taking.{SinkKnown, Took}
 use Rattle.vx_footer.specs.declared.footer.Footer.{Footer}
@@ -7,7 +7,6 @@ use Rattle.vx_footer.specs.Opening.{vx_grammar}
 use Rattle.vx_file.specs.declared.step.Step.{Step}
 use Rattle.vx_write.specs.Column.{written}
 use Rattle.vx_file.specs.Serving.{repeats}
-use Rattle.vx_main.specs.declared.command.Command.{Command}
 use Rattle.vx_main.specs.declared.command.Command.TheVariants.{Serve, Demo}
 use Rattle.vx_main.specs.Command.{Words}
 use Rattle.vx_main.specs.Demo.{Demonstrates}

@@ -1,14 +1,18 @@
-//! The program `vx`: serves the segments of a file by a script.
+//! The program `vx`: serves the segments of a file, or of one that it writes, by a script.
 #![tactic(auto)]
 
 mod command;
 mod demo;
+#[cfg(test)]
+mod demo_tests;
 mod failure;
 mod input;
 mod render;
 mod repeats;
 mod run;
 mod script;
+#[cfg(test)]
+mod stream_tests;
 mod telling;
 #[cfg(test)]
 mod tests;

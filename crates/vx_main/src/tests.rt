@@ -1,5 +1,5 @@
-// The program over memory: each status with its text, files that are refused, and segments far from
-// the tail.
+//! The program over memory: each status with its text, files that are refused, and segments far from
+//! the tail.
 use crate::run::run;
 use std::alloc::{AllocError, Global};
 use std::test::Fail;
