@@ -4,7 +4,8 @@ use Rattle.std.specs.BTreeSet.{BTreeSet, contains}
 use Rattle.std.specs.Ordering.{nat_cmp, ordering_then}
 use Rattle.std.specs.declared.cmp.Ordering.{Ordering}
 use Rattle.vx_sched.specs.Span.{end_of}
-use Rattle.vx_sched.specs.Reads.{Reads, read_at, is_waiting}
+use Rattle.vx_sched.specs.Reads.{Reads, read_at, waiting_at, is_waiting}
+use Rattle.vx_sched.specs.declared.request.ReadRequest.{ReadRequest}
 use Rattle.vx_sched.specs.declared.read.Read.{Read}
 use Rattle.vx_sched.specs.declared.read.Stage.{Stage}
 
@@ -28,3 +29,7 @@ pub record IsTable (reads : Reads) (places : BTreeSet (ℕ × ℕ)) : Type 0 whe
   pub keyed : (id : ℕ) (x : Read) → read_at reads id ≡ Some x → x.request.id ≡ id
   pub small : (id : ℕ) (x : Read) → read_at reads id ≡ Some x → id < 2 ^ 64
   pub fits : (id : ℕ) (x : Read) → read_at reads id ≡ Some x → end_of x.request < 2 ^ 64
+
+-- each waiting read ends in range
+abbrev pub AllFit : Reads → Type 0
+AllFit reads = (id : ℕ) (r : ReadRequest) → waiting_at reads id ≡ Some r → end_of r < 2 ^ 64

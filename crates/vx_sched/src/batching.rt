@@ -6,7 +6,7 @@ ghost use Rattle.vx_sched.specs.Span.{end_of};
 ghost use Rattle.vx_sched.specs.Merging.{Merges, is_listed, span_of};
 ghost use Rattle.vx_sched.specs.Picks.{free_at};
 
-use crate::gather::{Rules, gather};
+use crate::gather::{Rules, gather, reads_of};
 use crate::table::Table;
 use crate::{CoalescedRequest, ReadRequest};
 use std::alloc::{AllocError, Global};
@@ -52,7 +52,8 @@ pub fn gathered(
     let picks = gather(alloc, table, before, &rules, first)?;
     let start = alignment.down(picks.low);
     let end = picks.high;
-    Ok(CoalescedRequest::within(start, end, alignment, picks.reads))
+    let reads = reads_of(alloc, picks.reads)?;
+    Ok(CoalescedRequest::within(start, end, alignment, reads))
 }
 
 // Adds the numbers of reads.

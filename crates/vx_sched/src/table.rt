@@ -8,7 +8,7 @@ ghost use Rattle.vx_sched.specs.declared.request.ReadRequest.{ReadRequest};
 ghost use Rattle.std.specs.Ordering.{nat_cmp};
 ghost use Rattle.vx_sched.specs.Span.{end_of};
 ghost use Rattle.vx_sched.specs.Reads.{read_at, waiting_at, changed, with_stage, is_waiting, is_polled, is_poll};
-ghost use Rattle.vx_sched.specs.Places.{place_cmp, stays_waiting};
+ghost use Rattle.vx_sched.specs.Places.{AllFit, place_cmp, stays_waiting};
 ghost use Rattle.vx_sched.specs.Scheduling.{polled_at};
 ghost use Rattle.vx_sched.specs.Counting.{counts_of};
 
@@ -200,7 +200,7 @@ impl Table {
         requires { left ≤ right }
         ensures complete { IfOk result (λ ids. (id : ℕ) (r : ReadRequest) → waiting_at self.now id ≡ Some r →
             left ≤ r.offset → r.offset ≤ right → list_any (λ n. n == id) ids.items ≡ true) }
-        ensures fits { (id : ℕ) (r : ReadRequest) → waiting_at self.now id ≡ Some r → end_of r < 2 ^ 64 }
+        ensures fit { AllFit self.now }
     {
         let ids = numbers_between(alloc, &self.places, left, right)?;
         Ok(ids)
