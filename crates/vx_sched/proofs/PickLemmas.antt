@@ -30,6 +30,12 @@ true-or : (a : Bool) → (a || true) ≡ true
 true-or true = refl
 true-or false = refl
 
+-- what holds once a read was added
+pub record Added (rules : Rules) (reads : Reads) (before : BTreeSet ℕ) (old new : Picks) (r : ReadRequest) : Type 0 where
+  pub picked : IsPicked rules reads before new
+  pub more : PickedMore old new
+  pub listed : is_listed (values new.reads) r.id ≡ true
+
 module _ (rules : Rules) (reads : Reads) (before : BTreeSet ℕ) (old new : Picks) (r : ReadRequest) (p : IsPicked rules reads before old)
     (free : free_at reads before r.id ≡ Some r) (unlisted : is_listed (values old.reads) r.id ≡ false)
     (left : old.low ≤ r.offset + rules.distance) (right : r.offset ≤ old.high + rules.distance)
@@ -45,7 +51,7 @@ module _ (rules : Rules) (reads : Reads) (before : BTreeSet ℕ) (old new : Pick
   length-now : length (values new.reads) ≡ length (values old.reads) + 1
   length-now = ap length rs ∙ length-insert_read r (values old.reads)
 
-  pub added-picked : IsPicked rules reads before new
+  added-picked : IsPicked rules reads before new
   added-picked = record {
     placed = subst ArePlaced (sym es) (placed-insert r old.reads.entries p.placed unlisted);
     free = subst (λ xs. AllByRecursion (λ s. free_at reads before s.id ≡ Some s) xs) (sym rs) (insert-all (λ s. free_at reads before s.id ≡ Some s) r (values old.reads) free p.free);
@@ -58,17 +64,20 @@ module _ (rules : Rules) (reads : Reads) (before : BTreeSet ℕ) (old new : Pick
     limit = λ _. rw (lo, hi) short;
   }
 
-  pub added-more : PickedMore old new
+  added-more : PickedMore old new
   added-more = record {
     kept = λ id h. listed-now id ∙ or-true (is_listed (values old.reads) id) (r.id == id) h;
     low = omega (arith, lo);
     high = omega (arith, hi);
   }
 
-  pub added-listed : is_listed (values new.reads) r.id ≡ true
+  added-listed : is_listed (values new.reads) r.id ≡ true
   added-listed =
       let self : (r.id == r.id) ≡ true = grind (arith, nat_tests) in
       listed-now r.id ∙ ap (λ b. is_listed (values old.reads) r.id || b) self ∙ true-or (is_listed (values old.reads) r.id)
+
+  pub added : Added rules reads before old new r
+  added = record { picked = added-picked; more = added-more; listed = added-listed }
 
 -- aligning down keeps the order
 down-mono : (k m n : ℕ) → 0 < k → m ≤ n → m - m % k ≤ n - n % k

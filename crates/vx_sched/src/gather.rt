@@ -1,4 +1,9 @@
-//! Gathering the reads of a span.
+//! Gathering the reads of a span, in passes.
+//!
+//! A pass fixes its bounds as it begins, and looks at the waiting reads in them in order of offset and
+//! number: it picks each that does not make the range too long. Passes go on until the bounds stay. A
+//! read that was looked at is picked, or was too long and stays so as the range grows, so each pass
+//! looks only at what earlier ones did not, and a span looks at each read near it once.
 ghost use Rattle.std.specs.Prelude.{◌≡◌, ◌+◌, ◌-◌, ◌<◌, ◌≤◌, ◌^◌, ◌∷◌, [], true, false, Some, max, min, IfOk, IfSome, OnOk};
 ghost use Rattle.std.specs.BTreeMap.{insert_entry, values};
 ghost use Rattle.vx_base.specs.Aligned.{align_down};
@@ -13,7 +18,7 @@ use std::alloc::{AllocError, Global};
 use std::collections::{BTreeMap, BTreeSet};
 use vx_base::Alignment;
 
-// How far apart reads may lie, how long a span may be, and to what its start is aligned.
+/// How far apart reads may lie, how long a span may be, and to what its start is aligned.
 #[derive(Clone, Copy)]
 pub struct Rules {
     pub distance: u64,
@@ -21,7 +26,7 @@ pub struct Rules {
     pub alignment: Alignment,
 }
 
-// The reads that were picked so far, by offset and number, the first offset and the greatest end.
+/// The reads that were picked so far, by offset and number, the first offset and the greatest end.
 #[derive(Drop)]
 pub struct Picks {
     pub reads: BTreeMap<(u64, u64), ReadRequest>,
@@ -29,21 +34,21 @@ pub struct Picks {
     pub high: u64,
 }
 
-// Offsets from one to another, both among them.
+/// Offsets from one to another, both among them.
 #[derive(Clone, Copy)]
 struct Bounds {
     left: u64,
     right: u64,
 }
 
-// Whether one read is listed before another.
+/// Whether one read is listed before another.
 pub fn comes_before(a: &ReadRequest, b: &ReadRequest) -> bool
     ensures { result ≡ is_before a.now b.now }
 {
     a.offset < b.offset || (a.offset == b.offset && a.id < b.id)
 }
 
-// Whether the range would be longer than the limit with a read.
+/// Whether the range would be longer than the limit with a read.
 fn is_too_long(rules: &Rules, low: u64, high: u64, read: &ReadRequest) -> bool
     requires { end_of read.now < 2 ^ 64 }
     ensures long { result ≡ true → IsTooLong rules.now.limit rules.now.alignment low high read.now }
@@ -55,7 +60,7 @@ fn is_too_long(rules: &Rules, low: u64, high: u64, read: &ReadRequest) -> bool
 }
 
 impl Picks {
-    // The picks that begin with one read.
+    /// The picks that begin with one read.
     fn first(alloc: Global, read: ReadRequest) -> Result<Picks, AllocError>
         requires { end_of read < 2 ^ 64 }
         ensures reads { IfOk result (λ p. p.reads.entries ≡ ((read.offset, read.id), read) ∷ []) }
@@ -69,19 +74,7 @@ impl Picks {
         Ok(Picks { reads, low, high })
     }
 
-    // Whether a free read is among the picks.
-    fn has(&self, table: &Table, before: &BTreeSet<u64>, rules: &Rules, read: &ReadRequest) -> bool
-        requires picked { IsPicked rules.now table.now before.now self.now }
-        requires free { free_at table.now before.now read.now.id ≡ Some read.now }
-        ensures { result ≡ is_listed (values self.now.reads) read.now.id }
-    {
-        let _ = table;
-        let _ = before;
-        let _ = rules;
-        self.reads.contains_key(&(read.offset, read.id))
-    }
-
-    // The offsets within the distance of the picks.
+    /// The offsets within the distance of the picks.
     fn near(&self, rules: &Rules) -> Bounds
         ensures left { result.left ≡ self.now.low - rules.now.distance }
         ensures right { result.right ≡ min (self.now.high + rules.now.distance) (2 ^ 64 - 1) }
@@ -92,7 +85,18 @@ impl Picks {
         }
     }
 
-    // Adds a read.
+    /// The picked reads, in order.
+    pub fn into_reads(self, alloc: Global) -> Result<Vec<ReadRequest>, AllocError>
+        ensures { IfOk result (λ v. v.items ≡ values self.reads) }
+    {
+        let mut reads = Vec::new(alloc);
+        for read in self.reads.into_values() {
+            reads.push(read)?;
+        }
+        Ok(reads)
+    }
+
+    /// Adds a read.
     fn add(&mut self, read: ReadRequest) -> Result<(), AllocError>
         requires { end_of read < 2 ^ 64 }
         ensures reads { OnOk result (self.new.reads.entries
@@ -108,34 +112,7 @@ impl Picks {
         Ok(())
     }
 
-    // Picks a read that waits near the picks and fits.
-    fn pick(
-        &mut self,
-        table: &Table,
-        before: &BTreeSet<u64>,
-        rules: &Rules,
-        read: ReadRequest,
-    ) -> Result<(), AllocError>
-        requires picked { IsPicked rules.now table.now before.now self.old }
-        requires fits { end_of read < 2 ^ 64 }
-        requires free { free_at table.now before.now read.id ≡ Some read }
-        requires unlisted { is_listed (values self.old.reads) read.id ≡ false }
-        requires left { self.old.low ≤ read.offset + rules.now.distance }
-        requires right { read.offset ≤ self.old.high + rules.now.distance }
-        requires short { max self.old.high (end_of read) - align_down rules.now.alignment (min self.old.low read.offset)
-            ≤ rules.now.limit }
-        ensures picked { OnOk result (IsPicked rules.now table.now before.now self.new) }
-        ensures more { OnOk result (PickedMore self.old self.new) }
-        ensures listed { OnOk result (is_listed (values self.new.reads) read.id ≡ true) }
-    {
-        let _ = table;
-        let _ = before;
-        let _ = rules;
-        self.add(read)?;
-        Ok(())
-    }
-
-    // Looks at the read of a number, and picks it where it waits in the bounds and fits.
+    /// Looks at the read of a number, and picks it where it waits in the bounds and fits.
     fn look(
         &mut self,
         table: &Table,
@@ -157,18 +134,18 @@ impl Picks {
         if read.offset < bounds.left || read.offset > bounds.right {
             return Ok(());
         }
-        if self.has(table, before, rules, &read) {
+        if self.reads.contains_key(&(read.offset, read.id)) {
             return Ok(());
         }
         if is_too_long(rules, self.low, self.high, &read) {
             return Ok(());
         }
-        self.pick(table, before, rules, read)?;
+        self.add(read)?;
         Ok(())
     }
 }
 
-// The waiting read of a number that no earlier span has.
+/// The waiting read of a number that no earlier span has.
 fn free_read(table: &Table, before: &BTreeSet<u64>, id: u64) -> Option<ReadRequest>
     ensures value { result ≡ free_at table.now before.now id }
     ensures keyed { IfSome result (λ r. (r.id ≡ id) × (end_of r < 2 ^ 64)) }
@@ -180,7 +157,7 @@ fn free_read(table: &Table, before: &BTreeSet<u64>, id: u64) -> Option<ReadReque
     }
 }
 
-// Looks at the waiting reads whose offsets lie in bounds, in order.
+/// Looks at the waiting reads whose offsets lie in bounds, in order.
 fn look_between(
     alloc: Global,
     table: &Table,
@@ -205,7 +182,7 @@ fn look_between(
     Ok(())
 }
 
-// Looks at the waiting reads from an offset up to bounds whose reads were looked at, in order.
+/// Looks at the waiting reads from an offset up to bounds whose reads were looked at, in order.
 fn look_before(
     alloc: Global,
     table: &Table,
@@ -234,7 +211,7 @@ fn look_before(
     Ok(())
 }
 
-// Looks at the waiting reads from bounds whose reads were looked at up to an offset, in order.
+/// Looks at the waiting reads from bounds whose reads were looked at up to an offset, in order.
 fn look_after(
     alloc: Global,
     table: &Table,
@@ -263,8 +240,7 @@ fn look_after(
     Ok(())
 }
 
-// Looks once, in order, at the waiting reads in bounds that were not looked at before. Those that
-// were are picks, or were too long, and a longer range does not make them fit.
+/// Looks at the waiting reads in bounds that were not looked at before, in order.
 fn pass(
     alloc: Global,
     table: &Table,
@@ -292,8 +268,8 @@ fn pass(
     look_after(alloc, table, before, rules, seen, bounds.right, picks)
 }
 
-// Gathers the reads of a span from one on, in passes, until none is near it that fits. Each pass
-// fixes its bounds as it begins. Only memory refuses.
+/// Gathers the reads of a span from one on, in passes, until none is near it that fits. Each pass
+/// fixes its bounds as it begins. Only memory refuses.
 pub fn gather(
     alloc: Global,
     table: &Table,
@@ -318,18 +294,4 @@ pub fn gather(
         pass(alloc, table, before, rules, seen, bounds, &mut picks)?;
         seen = bounds;
     }
-}
-
-// The picked reads, in order.
-pub fn reads_of(
-    alloc: Global,
-    picks: BTreeMap<(u64, u64), ReadRequest>,
-) -> Result<Vec<ReadRequest>, AllocError>
-    ensures { IfOk result (λ v. v.items ≡ values picks) }
-{
-    let mut reads = Vec::new(alloc);
-    for read in picks.into_values() {
-        reads.push(read)?;
-    }
-    Ok(reads)
 }

@@ -40,7 +40,7 @@ impl Model for State {
     ghost invariant = { λ s. (1 ≤ s.most) × ((q : ℕ) → option_map_or (λ n. n + 1) s.last 0 ≤ q → read_at s.table q ≡ None) };
 }
 
-// Changes several reads.
+/// Changes several reads.
 fn change_all(table: &mut Table, change: Change, reads: &[ReadRequest])
     ensures changed { table.new ≡ all_changed change table.old reads.now }
     ensures none { (q : ℕ) → read_at table.old q ≡ None → read_at table.new q ≡ None }
@@ -95,7 +95,7 @@ impl State {
         Ok(())
     }
 
-    // The span of the next read, from what earlier spans leave.
+    /// The span of the next read, from what earlier spans leave.
     fn gather_from(
         &self,
         alloc: Global,
@@ -135,7 +135,7 @@ impl State {
         Ok(spans)
     }
 
-    // Puts the reads of a span in flight.
+    /// Puts the reads of a span in flight.
     fn take_one(&mut self, span: &CoalescedRequest)
         requires { MergesNow self.old span.now }
         ensures { self.new ≡ taken self.old span.now }
@@ -203,7 +203,7 @@ impl State {
             && self.has_range(range)
     }
 
-    // Whether a span with reads has the range and the alignment that the settings give its reads.
+    /// Whether a span with reads has the range and the alignment that the settings give its reads.
     fn has_range(&self, range: &CoalescedRequest) -> bool
         requires { 1 ≤ length range.now.reads }
         ensures { result ≡ same_span range.now (span_of self.now.window self.now.alignment range.now.reads) }
@@ -234,7 +234,7 @@ impl State {
     }
 }
 
-// The window with room for the start to be aligned down.
+/// The window with room for the start to be aligned down.
 fn raise(window: Option<CoalesceConfig>, alignment: Alignment) -> Option<CoalesceConfig>
     ensures { result ≡ option_map (raised alignment) window }
 {

@@ -20,8 +20,8 @@ use std::alloc::{AllocError, Global};
 use std::collections::{BTreeMap, BTreeSet};
 use std::marker::Model;
 
-// Each polled read whose number is below `upto` is listed. A poll must not fail, so where it finds no
-// memory for the list, the list ends there, and the next read is looked for among all from there on.
+/// Each polled read whose number is below `upto` is listed. A poll must not fail, so where it finds no
+/// memory for the list, the list ends there, and the next read is looked for among all from there on.
 #[derive(Drop)]
 pub struct Table {
     reads: BTreeMap<u64, Read>,
@@ -41,7 +41,7 @@ impl Model for Table {
     ghost invariant = { λ t. IsTable t.reads.entries t.places × IsList t.reads.entries t.listed.entries t.upto };
 }
 
-// Adds a read and its place, or neither.
+/// Adds a read and its place, or neither.
 fn add(
     reads: &mut BTreeMap<u64, Read>,
     places: &mut BTreeSet<(u64, u64)>,
@@ -74,7 +74,7 @@ fn add(
     }
 }
 
-// Puts the read of a number, which is there, in another stage, or takes it out.
+/// Puts the read of a number, which is there, in another stage, or takes it out.
 fn put(reads: &mut BTreeMap<u64, Read>, id: u64, request: ReadRequest, stage: Option<Stage>)
     requires { IsSome (read_at reads.old.entries id) }
     ensures entries { reads.new.entries ≡ with_stage reads.old.entries id request stage }
@@ -92,7 +92,7 @@ fn put(reads: &mut BTreeMap<u64, Read>, id: u64, request: ReadRequest, stage: Op
     }
 }
 
-// Takes the place of a read out, where it waits no longer.
+/// Takes the place of a read out, where it waits no longer.
 fn leave(places: &mut BTreeSet<(u64, u64)>, read: &Read, stage: Option<Stage>)
     ensures { (k : ℕ × ℕ) → contains place_cmp places.new k ≡ cond
         (is_waiting read.now.stage && not (stays_waiting stage) && is_at (place_cmp (read.now.request.offset, read.now.request.id)) k)
@@ -107,8 +107,8 @@ fn leave(places: &mut BTreeSet<(u64, u64)>, read: &Read, stage: Option<Stage>)
     }
 }
 
-// Lists a read where it was polled and waits, or else takes it off the list. Gives the number up to
-// which all are listed then.
+/// Lists a read where it was polled and waits, or else takes it off the list. Gives the number up to
+/// which all are listed then.
 fn list(
     listed: &mut BTreeMap<u64, Read>,
     upto: u64,
@@ -136,7 +136,7 @@ fn list(
     }
 }
 
-// The numbers at the places whose offsets lie in bounds, in order.
+/// The numbers at the places whose offsets lie in bounds, in order.
 fn numbers_between(
     alloc: Global,
     places: &BTreeSet<(u64, u64)>,
@@ -154,14 +154,14 @@ fn numbers_between(
     Ok(ids)
 }
 
-// Whether a read was polled and waits, and is not among some.
+/// Whether a read was polled and waits, and is not among some.
 fn is_next(id: u64, read: &Read, taken: &BTreeSet<u64>) -> bool
     ensures { result ≡ (is_polled read.now.stage && not (contains nat_cmp taken.now id)) }
 {
     read.stage.is_polled() && !taken.contains(&id)
 }
 
-// The polled read of least number, from a number on, that is not among some.
+/// The polled read of least number, from a number on, that is not among some.
 fn first_polled(
     reads: &BTreeMap<u64, Read>,
     from: u64,
@@ -183,7 +183,7 @@ fn first_polled(
     None
 }
 
-// The listed read of least number, from a number on and below another, that is not among some.
+/// The listed read of least number, from a number on and below another, that is not among some.
 fn first_listed(
     listed: &BTreeMap<u64, Read>,
     from: u64,
@@ -222,7 +222,7 @@ impl Table {
         self.reads.get(&id).copied()
     }
 
-    // The waiting read of a number.
+    /// The waiting read of a number.
     pub fn waiting(&self, id: u64) -> Option<ReadRequest>
         ensures value { result ≡ waiting_at self.now id }
         ensures keyed { IfSome result (λ r. (r.id ≡ id) × (end_of r < 2 ^ 64)) }
@@ -235,7 +235,7 @@ impl Table {
         }
     }
 
-    // The polled read of least number, from a number on, that is not among some.
+    /// The polled read of least number, from a number on, that is not among some.
     pub fn next_polled(&self, from: u64, taken: &BTreeSet<u64>) -> Option<ReadRequest>
         ensures found { IfSome result (λ r. read_at self.now r.id ≡ Some (record { request = r; stage = Stage.Polled })) }
         ensures fresh { IfSome result (λ r. contains nat_cmp taken.now r.id ≡ false) }
@@ -252,7 +252,7 @@ impl Table {
         Some(request)
     }
 
-    // The numbers of the waiting reads whose offsets lie in bounds, in order. Only memory refuses.
+    /// The numbers of the waiting reads whose offsets lie in bounds, in order. Only memory refuses.
     pub fn places_near(&self, alloc: Global, left: u64, right: u64) -> Result<Vec<u64>, AllocError>
         requires { left ≤ right }
         ensures complete { IfOk result (λ ids. (id : ℕ) (r : ReadRequest) → waiting_at self.now id ≡ Some r →
@@ -263,7 +263,7 @@ impl Table {
         Ok(ids)
     }
 
-    // How many reads there are of each kind.
+    /// How many reads there are of each kind.
     pub fn counts(&self) -> Counts
         ensures { result ≡ counts_of self.now }
     {
@@ -276,7 +276,7 @@ impl Table {
         }
     }
 
-    // Registers a read of a new number. Only memory refuses.
+    /// Registers a read of a new number. Only memory refuses.
     pub fn register(&mut self, request: ReadRequest) -> Result<(), AllocError>
         requires fresh { read_at self.old request.id ≡ None }
         requires fits { end_of request < 2 ^ 64 }
@@ -289,7 +289,7 @@ impl Table {
         Ok(())
     }
 
-    // Changes the read of a number, if there is one.
+    /// Changes the read of a number, if there is one.
     pub fn change(&mut self, id: u64, change: Change)
         ensures changed { self.new ≡ changed change self.old id }
         ensures others { (q : ℕ) → (id == q) ≡ false → read_at self.new q ≡ read_at self.old q }
