@@ -2,10 +2,10 @@
 ghost use Rattle.std.specs.Prelude.{◌≡◌, ℕ, ◌+◌, ◌<◌, ◌≤◌, ◌^◌, [], true, false, length, IfOk, IfSome, IfNone, option_map, None, Some, IsOk, OnOk, OnErr};
 ghost use Rattle.vx_sched.specs.Reads.{read_at, all_changed};
 ghost use Rattle.vx_sched.specs.Span.{end_of};
-ghost use Rattle.vx_sched.specs.Merging.{raised, Merges, is_listed, span_of};
+ghost use Rattle.vx_sched.specs.Merging.{raised, Merges, span_of};
 ghost use Rattle.vx_sched.specs.Picks.{free_at};
 ghost use Rattle.vx_sched.specs.Counting.{counts_of};
-ghost use Rattle.vx_sched.specs.Scheduling.{MayHappen, polled_at, stepped, takes_no_memory, MayTake, MergesNow, MergesInTurn, ranges_in_flight, same_span, NonePolled, taken, all_taken, resolved, in_flight};
+ghost use Rattle.vx_sched.specs.Scheduling.{MayHappen, stepped, takes_no_memory, MayTake, MergesNow, MergesInTurn, ranges_in_flight, same_span, NonePolled, taken, all_taken, resolved, in_flight};
 
 use crate::batching::{add_numbers, gathered, lone};
 use crate::flying::{all_fly, greatest_end_of, is_ordered};

@@ -20,8 +20,10 @@ use std::alloc::{AllocError, Global};
 use std::collections::{BTreeMap, BTreeSet};
 use std::marker::Model;
 
-/// Each polled read whose number is below `upto` is listed. A poll must not fail, so where it finds no
-/// memory for the list, the list ends there, and the next read is looked for among all from there on.
+/// The reads by number, and the places of those that wait. The polled ones of these whose numbers are
+/// below `upto` are listed again, so that the next one is found at once. A poll must not fail: where it
+/// finds no memory for the list, the list ends there, and from there on the next read is looked for
+/// among all.
 #[derive(Drop)]
 pub struct Table {
     reads: BTreeMap<u64, Read>,
