@@ -1,6 +1,7 @@
 pub mod SpanLemmas
 pub mod TableLemmas
 pub mod InsertLemmas
+pub mod EntryLemmas
 pub mod PickLemmas
 pub mod NextLemmas
 pub mod ReadsLemmas

@@ -1,18 +1,22 @@
 -- One more read is picked.
-use Rattle.std.proofs.Common.{◌≡◌, ℕ, suc, get_or, drop-cons, add-one, ◌^◌, ◌%◌, ◌*◌, ◌/◌, cond, None, drop, ◌+◌, ◌-◌, ◌<◌, ◌≤◌, ◌==◌, ◌||◌, min, max, Bool, true, false, List, ◌∷◌, length, Some, refl, ap, sym, ◌∙◌, subst, arith}
+use Rattle.std.proofs.Common.{◌≡◌, ℕ, suc, get_or, drop-cons, add-one, ◌^◌, ◌%◌, ◌*◌, ◌/◌, drop, ◌+◌, ◌-◌, ◌<◌, ◌≤◌, ◌==◌, ◌||◌, min, max, Bool, true, false, List, ◌∷◌, length, Some, refl, ap, sym, ◌∙◌, subst, ⊎_elim, arith}
+use Rattle.std.proofs.lemmas.Bool.{cases_lt}
 use Rattle.std.proofs.lemmas.Bool.Decides.{nat_tests}
-use Rattle.std.specs.BTreeSet.{BTreeSet, contains}
-use Rattle.std.specs.Ordering.{nat_cmp}
+use Rattle.std.specs.BTreeSet.{BTreeSet}
+use Rattle.std.specs.Map.{values_of}
+use Rattle.std.specs.BTreeMap.{insert_entry, values}
 use Rattle.std.specs.List.{AllByRecursion, list_any}
 use Rattle.std.proofs.Math.Nat.{div-add-mod, div-add-mod', mul-le-mul_left}
 use Rattle.std.proofs.lemmas.Nat.{le-div, pow_pos}
 use Rattle.std.proofs.lemmas.List.{drop_all}
 use Rattle.vx_base.specs.Aligned.{align_down}
 use Rattle.vx_sched.specs.Span.{end_of}
-use Rattle.vx_sched.specs.Reads.{Reads, waiting_at}
+use Rattle.vx_sched.specs.Reads.{Reads}
 use Rattle.vx_sched.specs.Merging.{HasNoWideGap, IsTooLong, first_offset, greatest_end, is_in_order, is_listed}
 use Rattle.vx_sched.specs.Insert.{insert_read}
-use Rattle.vx_sched.specs.Picks.{IsPicked, PickedMore, IsLookedAt, IsClosed, free_at}
+use Rattle.vx_sched.specs.Places.{place_cmp}
+use Rattle.vx_sched.specs.Picks.{IsPicked, PickedMore, ArePlaced, IsLookedAt, AreLookedAt, free_at}
+use Rattle.vx_sched.proofs.EntryLemmas.{values-insert, placed-insert}
 use Rattle.vx_sched.proofs.InsertLemmas.{insert-order, insert-gaps, insert-all, is_listed-insert, length-insert_read, first_offset-insert, greatest_end-insert}
 use Rattle.vx_sched.specs.declared.request.ReadRequest.{ReadRequest}
 use Rattle.vx_sched.specs.declared.gather.Picks.{Picks}
@@ -26,45 +30,54 @@ true-or : (a : Bool) → (a || true) ≡ true
 true-or true = refl
 true-or false = refl
 
+-- what holds once a read was added
+pub record Added (rules : Rules) (reads : Reads) (before : BTreeSet ℕ) (old new : Picks) (r : ReadRequest) : Type 0 where
+  pub picked : IsPicked rules reads before new
+  pub more : PickedMore old new
+  pub listed : is_listed (values new.reads) r.id ≡ true
+
 module _ (rules : Rules) (reads : Reads) (before : BTreeSet ℕ) (old new : Picks) (r : ReadRequest) (p : IsPicked rules reads before old)
-    (free : free_at reads before r.id ≡ Some r) (unlisted : is_listed old.reads.items r.id ≡ false)
+    (free : free_at reads before r.id ≡ Some r) (unlisted : is_listed (values old.reads) r.id ≡ false)
     (left : old.low ≤ r.offset + rules.distance) (right : r.offset ≤ old.high + rules.distance)
     (short : max old.high (end_of r) - align_down rules.alignment (min old.low r.offset) ≤ rules.limit)
-    (rs : new.reads.items ≡ insert_read r old.reads.items)
-    (ids : (id : ℕ) → contains nat_cmp new.ids id ≡ (contains nat_cmp old.ids id || (r.id == id)))
+    (es : new.reads.entries ≡ insert_entry place_cmp old.reads.entries (r.offset, r.id) r)
     (lo : new.low ≡ min old.low r.offset) (hi : new.high ≡ max old.high (end_of r)) where
-  listed-now : (id : ℕ) → is_listed new.reads.items id ≡ (is_listed old.reads.items id || (r.id == id))
-  listed-now id = ap (λ xs. is_listed xs id) rs ∙ is_listed-insert r old.reads.items id
+  rs : values new.reads ≡ insert_read r (values old.reads)
+  rs = ap values_of es ∙ values-insert r old.reads.entries p.placed unlisted
 
-  length-now : length new.reads.items ≡ length old.reads.items + 1
-  length-now = ap length rs ∙ length-insert_read r old.reads.items
+  listed-now : (id : ℕ) → is_listed (values new.reads) id ≡ (is_listed (values old.reads) id || (r.id == id))
+  listed-now id = ap (λ xs. is_listed xs id) rs ∙ is_listed-insert r (values old.reads) id
 
-  pub added-picked : IsPicked rules reads before new
+  length-now : length (values new.reads) ≡ length (values old.reads) + 1
+  length-now = ap length rs ∙ length-insert_read r (values old.reads)
+
+  added-picked : IsPicked rules reads before new
   added-picked = record {
-    free = subst (λ xs. AllByRecursion (λ s. free_at reads before s.id ≡ Some s) xs) (sym rs) (insert-all (λ s. free_at reads before s.id ≡ Some s) r old.reads.items free p.free);
-    order = subst (λ xs. is_in_order xs ≡ true) (sym rs) (insert-order r old.reads.items p.order unlisted);
-    listed = λ id. ids id ∙ ap (λ b. b || (r.id == id)) (p.listed id) ∙ sym (listed-now id);
-    low = lo ∙ ap (λ n. min n r.offset) p.low ∙ sym (first_offset-insert r old.reads.items p.some) ∙ ap first_offset (sym rs);
-    high = hi ∙ ap (λ n. max n (end_of r)) p.high ∙ sym (greatest_end-insert r old.reads.items) ∙ ap greatest_end (sym rs);
+    placed = subst ArePlaced (sym es) (placed-insert r old.reads.entries p.placed unlisted);
+    free = subst (λ xs. AllByRecursion (λ s. free_at reads before s.id ≡ Some s) xs) (sym rs) (insert-all (λ s. free_at reads before s.id ≡ Some s) r (values old.reads) free p.free);
+    order = subst (λ xs. is_in_order xs ≡ true) (sym rs) (insert-order r (values old.reads) p.order unlisted);
+    low = lo ∙ ap (λ n. min n r.offset) p.low ∙ sym (first_offset-insert r (values old.reads) p.some) ∙ ap first_offset (sym rs);
+    high = hi ∙ ap (λ n. max n (end_of r)) p.high ∙ sym (greatest_end-insert r (values old.reads)) ∙ ap greatest_end (sym rs);
     forward = omega (arith, lo, hi, p.forward);
     some = omega (arith, length-now);
-    gaps = subst (λ xs. HasNoWideGap rules.distance xs) (sym rs) (insert-gaps rules.distance r old.reads.items p.gaps (subst (λ n. n ≤ r.offset + rules.distance) p.low left) (subst (λ n. r.offset ≤ n + rules.distance) p.high right));
+    gaps = subst (λ xs. HasNoWideGap rules.distance xs) (sym rs) (insert-gaps rules.distance r (values old.reads) p.gaps (subst (λ n. n ≤ r.offset + rules.distance) p.low left) (subst (λ n. r.offset ≤ n + rules.distance) p.high right));
     limit = λ _. rw (lo, hi) short;
   }
 
-  pub added-more : PickedMore old new
+  added-more : PickedMore old new
   added-more = record {
-    grew = omega (arith, length-now);
-    kept = λ id h. listed-now id ∙ or-true (is_listed old.reads.items id) (r.id == id) h;
+    kept = λ id h. listed-now id ∙ or-true (is_listed (values old.reads) id) (r.id == id) h;
     low = omega (arith, lo);
     high = omega (arith, hi);
-    same = λ h. absurd (omega (arith, length-now));
   }
 
-  pub added-listed : is_listed new.reads.items r.id ≡ true
+  added-listed : is_listed (values new.reads) r.id ≡ true
   added-listed =
       let self : (r.id == r.id) ≡ true = grind (arith, nat_tests) in
-      listed-now r.id ∙ ap (λ b. is_listed old.reads.items r.id || b) self ∙ true-or (is_listed old.reads.items r.id)
+      listed-now r.id ∙ ap (λ b. is_listed (values old.reads) r.id || b) self ∙ true-or (is_listed (values old.reads) r.id)
+
+  pub added : Added rules reads before old new r
+  added = record { picked = added-picked; more = added-more; listed = added-listed }
 
 -- aligning down keeps the order
 down-mono : (k m n : ℕ) → 0 < k → m ≤ n → m - m % k ≤ n - n % k
@@ -89,33 +102,18 @@ pub looked-more : (rules : Rules) (reads : Reads) (before : BTreeSet ℕ) (left 
     → IsLookedAt rules reads before left right old id → IsLookedAt rules reads before left right new id
 looked-more rules reads before left right old new id m looked r free l h unlisted =
     too_long-more rules.limit rules.alignment old.low old.high new.low new.high r m.low m.high
-    (looked r free l h (false-back (is_listed old.reads.items id) (is_listed new.reads.items id) (m.kept id) unlisted))
+    (looked r free l h (false-back (is_listed (values old.reads) id) (is_listed (values new.reads) id) (m.kept id) unlisted))
 
 -- picking goes on
 pub more-trans : (a b c : Picks) → PickedMore a b → PickedMore b c → PickedMore a c
 more-trans a b c p q = record {
-  grew = omega (arith, p.grew, q.grew);
   kept = λ id h. q.kept id (p.kept id h);
   low = omega (arith, p.low, q.low);
   high = omega (arith, p.high, q.high);
-  same = λ h.
-      let e : length b.reads.items ≡ length a.reads.items = omega (arith, p.grew, q.grew) in
-      let f : length c.reads.items ≡ length b.reads.items = omega (arith, p.grew, q.grew) in
-      let s = p.same e in
-      let t = q.same f in
-      (t.0 ∙ s.0, t.1 ∙ s.1);
 }
 
 pub more-refl : (a : Picks) → PickedMore a a
-more-refl a = record { grew = omega arith; kept = λ id h. h; low = omega arith; high = omega arith; same = λ _. (refl, refl) }
-
--- a free read waits
-pub free-waits : (reads : Reads) (before : BTreeSet ℕ) (id : ℕ) (r : ReadRequest) → free_at reads before id ≡ Some r → waiting_at reads id ≡ Some r
-free-waits reads before id r h = at (contains nat_cmp before id) h
-  where
-    at : (b : Bool) → cond b None (waiting_at reads id) ≡ Some r → waiting_at reads id ≡ Some r
-    at true h = cc
-    at false h = h
+more-refl a = record { kept = λ id h. h; low = omega arith; high = omega arith }
 
 -- a look at one more number
 pub looked-step : (rules : Rules) (reads : Reads) (before : BTreeSet ℕ) (left right : ℕ) (old new : Picks) (id : ℕ) (rest : List ℕ) → PickedMore old new
@@ -145,15 +143,16 @@ looked-loop rules reads before left right old new xs i l m inv it q h =
 pub none-left : (xs : List ℕ) (i q : ℕ) → length xs ≤ i → list_any (λ n. n == q) (drop i xs) ≡ false
 none-left xs i q h = rw (drop_all i xs h) refl
 
--- where a pass picked nothing, nothing more fits
-pub closed-now : (rules : Rules) (reads : Reads) (before : BTreeSet ℕ) (left right : ℕ) (old new : Picks) → PickedMore old new
-    → left ≡ old.low - rules.distance → right ≡ min (old.high + rules.distance) (2 ^ 64 - 1)
-    → ((id : ℕ) (r : ReadRequest) → waiting_at reads id ≡ Some r → end_of r < 2 ^ 64)
-    → ((q : ℕ) → IsLookedAt rules reads before left right new q)
-    → length new.reads.items ≡ length old.reads.items → IsClosed rules reads before new
-closed-now rules reads before left right old new m l h fits looked same r free unlisted near =
-    let s = m.same same in
-    let fit = fits r.id r (free-waits reads before r.id r free) in
-    let from = near.from in
-    let upto = near.upto in
-    looked r.id r free (omega (arith, s.0, from)) (omega (arith, s.1, upto, fit)) unlisted
+-- more picks, with the reads before the ones that were looked at
+pub looked-before : (rules : Rules) (reads : Reads) (before : BTreeSet ℕ) (left from right : ℕ) (old new : Picks) → PickedMore old new
+    → AreLookedAt rules reads before from right old → AreLookedAt rules reads before left (from - 1) new → AreLookedAt rules reads before left right new
+looked-before rules reads before left from right old new m seen more id r free l h unlisted =
+    ⊎_elim (λ (outside : r.offset < from). more id r free l (omega arith) unlisted)
+    (λ inside. looked-more rules reads before from right old new id m (seen id) r free inside h unlisted) (cases_lt r.offset from)
+
+-- more picks, with the reads after the ones that were looked at
+pub looked-after : (rules : Rules) (reads : Reads) (before : BTreeSet ℕ) (left upto right : ℕ) (old new : Picks) → PickedMore old new
+    → AreLookedAt rules reads before left upto old → AreLookedAt rules reads before (upto + 1) right new → AreLookedAt rules reads before left right new
+looked-after rules reads before left upto right old new m seen more id r free l h unlisted =
+    ⊎_elim (λ (outside : upto < r.offset). more id r free (omega arith) h unlisted)
+    (λ inside. looked-more rules reads before left upto old new id m (seen id) r free l inside unlisted) (cases_lt upto r.offset)

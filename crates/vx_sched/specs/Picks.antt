@@ -1,6 +1,7 @@
 -- A span while it is gathered.
-use Rattle.std.specs.Prelude.{◌≡◌, ℕ, ◌-◌, ◌<◌, ◌≤◌, true, false, length, Option, Some, None, if◌then◌else◌}
+use Rattle.std.specs.Prelude.{◌≡◌, ℕ, ◌-◌, ◌<◌, ◌≤◌, true, false, List, length, Option, Some, None, if◌then◌else◌}
 use Rattle.std.specs.List.{AllByRecursion}
+use Rattle.std.specs.BTreeMap.{values}
 use Rattle.std.specs.BTreeSet.{BTreeSet, contains}
 use Rattle.std.specs.Ordering.{nat_cmp}
 use Rattle.vx_base.specs.Aligned.{align_down}
@@ -14,32 +15,38 @@ use Rattle.vx_sched.specs.declared.gather.Rules.{Rules}
 abbrev pub free_at : Reads → BTreeSet ℕ → ℕ → Option ReadRequest
 free_at reads before id = if contains nat_cmp before id then None else waiting_at reads id
 
+-- each read stands under its offset and number
+abbrev pub ArePlaced : List ((ℕ × ℕ) × ReadRequest) → Type 0
+ArePlaced entries = AllByRecursion (λ e. e.0 ≡ (e.1.offset, e.1.id)) entries
+
 -- what holds of the reads that were picked so far
 pub record IsPicked (rules : Rules) (reads : Reads) (before : BTreeSet ℕ) (picks : Picks) : Type 0 where
-  pub free : AllByRecursion (λ r. free_at reads before r.id ≡ Some r) picks.reads.items
-  pub order : is_in_order picks.reads.items ≡ true
-  pub listed : (id : ℕ) → contains nat_cmp picks.ids id ≡ is_listed picks.reads.items id
-  pub low : picks.low ≡ first_offset picks.reads.items
-  pub high : picks.high ≡ greatest_end picks.reads.items
+  pub placed : ArePlaced picks.reads.entries
+  pub free : AllByRecursion (λ r. free_at reads before r.id ≡ Some r) (values picks.reads)
+  pub order : is_in_order (values picks.reads) ≡ true
+  pub low : picks.low ≡ first_offset (values picks.reads)
+  pub high : picks.high ≡ greatest_end (values picks.reads)
   pub forward : picks.low ≤ picks.high
-  pub some : 1 ≤ length picks.reads.items
-  pub gaps : HasNoWideGap rules.distance picks.reads.items
-  pub limit : 1 < length picks.reads.items → picks.high - align_down rules.alignment picks.low ≤ rules.limit
+  pub some : 1 ≤ length (values picks.reads)
+  pub gaps : HasNoWideGap rules.distance (values picks.reads)
+  pub limit : 1 < length (values picks.reads) → picks.high - align_down rules.alignment picks.low ≤ rules.limit
 
 -- more reads were picked, or none
 pub record PickedMore (old new : Picks) : Type 0 where
-  pub grew : length old.reads.items ≤ length new.reads.items
-  pub kept : (id : ℕ) → is_listed old.reads.items id ≡ true → is_listed new.reads.items id ≡ true
+  pub kept : (id : ℕ) → is_listed (values old.reads) id ≡ true → is_listed (values new.reads) id ≡ true
   pub low : new.low ≤ old.low
   pub high : old.high ≤ new.high
-  pub same : length new.reads.items ≡ length old.reads.items → (new.low ≡ old.low) × (new.high ≡ old.high)
 
 -- a read of this number in these bounds was picked, or would make the span too long
 abbrev pub IsLookedAt : Rules → Reads → BTreeSet ℕ → ℕ → ℕ → Picks → ℕ → Type 0
 IsLookedAt rules reads before left right picks id = (r : ReadRequest) → free_at reads before id ≡ Some r → left ≤ r.offset → r.offset ≤ right
-    → is_listed picks.reads.items id ≡ false → IsTooLong rules.limit rules.alignment picks.low picks.high r
+    → is_listed (values picks.reads) id ≡ false → IsTooLong rules.limit rules.alignment picks.low picks.high r
+
+-- each read in these bounds was
+abbrev pub AreLookedAt : Rules → Reads → BTreeSet ℕ → ℕ → ℕ → Picks → Type 0
+AreLookedAt rules reads before left right picks = (id : ℕ) → IsLookedAt rules reads before left right picks id
 
 -- each free read that is near the picks was picked, or would make the span too long
 abbrev pub IsClosed : Rules → Reads → BTreeSet ℕ → Picks → Type 0
-IsClosed rules reads before picks = (r : ReadRequest) → free_at reads before r.id ≡ Some r → is_listed picks.reads.items r.id ≡ false
+IsClosed rules reads before picks = (r : ReadRequest) → free_at reads before r.id ≡ Some r → is_listed (values picks.reads) r.id ≡ false
     → IsNear rules.distance picks.low picks.high r → IsTooLong rules.limit rules.alignment picks.low picks.high r

@@ -9,14 +9,14 @@ use crate::{Fault, Outcome, Place};
 use std::alloc::{AllocError, Global};
 use vx_base::{Failed, FaultKind, RangeAnswer, ReadAtRequest, Reader};
 
-// Whether two ranges are one.
+/// Whether two ranges are one.
 fn is_same(a: &ReadAtRequest, b: &ReadAtRequest) -> bool
     ensures { result ≡ same_range a.now b.now }
 {
     a.offset == b.offset && a.length == b.length && a.alignment.exponent() == b.alignment.exponent()
 }
 
-// The place of the first answer that names a range.
+/// The place of the first answer that names a range.
 fn place_of(answers: &[RangeAnswer], range: &ReadAtRequest) -> Option<usize>
     ensures { result ≡ position (names range.now) answers.now }
 {
@@ -25,7 +25,7 @@ fn place_of(answers: &[RangeAnswer], range: &ReadAtRequest) -> Option<usize>
         .position(|answer| is_same(range, &answer.request))
 }
 
-// Takes the first answer that names a range.
+/// Takes the first answer that names a range.
 fn take_answer(answers: &mut Vec<RangeAnswer>, range: &ReadAtRequest) -> Option<RangeAnswer>
     ensures found { result ≡ answer_to range.now answers.old.items }
     ensures left { answers.new.items ≡ without_answer range.now answers.old.items }
@@ -36,7 +36,7 @@ fn take_answer(answers: &mut Vec<RangeAnswer>, range: &ReadAtRequest) -> Option<
     }
 }
 
-// A fault at a range.
+/// A fault at a range.
 fn fault_at(kind: FaultKind, range: &ReadAtRequest) -> Outcome
     ensures { result ≡ Outcome.Fault (range_fault kind range.now) }
 {
@@ -49,7 +49,7 @@ fn fault_at(kind: FaultKind, range: &ReadAtRequest) -> Outcome
     })
 }
 
-// What the answer to a range makes of it.
+/// What the answer to a range makes of it.
 fn outcome(range: &ReadAtRequest, answer: Option<RangeAnswer>) -> Outcome
     ensures { result ≡ outcome_of range.now answer }
 {
@@ -66,7 +66,7 @@ fn outcome(range: &ReadAtRequest, answer: Option<RangeAnswer>) -> Outcome
     }
 }
 
-// What the answers make of ranges, each by the first answer left that names it. Only memory refuses.
+/// What the answers make of ranges, each by the first answer left that names it. Only memory refuses.
 fn match_answers(
     alloc: Global,
     asked: &[ReadAtRequest],

@@ -13,7 +13,7 @@ use std::alloc::{AllocError, Global};
 use std::collections::BTreeSet;
 use vx_base::{Alignment, CoalesceConfig};
 
-// The span of one read alone.
+/// The span of one read alone.
 pub fn lone(alloc: Global, first: ReadRequest) -> Result<CoalescedRequest, AllocError>
     requires { end_of first < 2 ^ 64 }
     ensures { IfOk result (λ span. span ≡ record {
@@ -31,7 +31,7 @@ pub fn lone(alloc: Global, first: ReadRequest) -> Result<CoalescedRequest, Alloc
     Ok(CoalescedRequest::within(start, end, alignment, reads))
 }
 
-// The span that a window gathers from a read on.
+/// The span that a window gathers from a read on.
 pub fn gathered(
     alloc: Global,
     table: &Table,
@@ -52,10 +52,11 @@ pub fn gathered(
     let picks = gather(alloc, table, before, &rules, first)?;
     let start = alignment.down(picks.low);
     let end = picks.high;
-    Ok(CoalescedRequest::within(start, end, alignment, picks.reads))
+    let reads = picks.into_reads(alloc)?;
+    Ok(CoalescedRequest::within(start, end, alignment, reads))
 }
 
-// Adds the numbers of reads.
+/// Adds the numbers of reads.
 pub fn add_numbers(numbers: &mut BTreeSet<u64>, reads: &[ReadRequest]) -> Result<(), AllocError>
     ensures { OnOk result ((q : ℕ) → contains nat_cmp numbers.new q
         ≡ (contains nat_cmp numbers.old q || is_listed reads.now q)) }

@@ -15,7 +15,7 @@ pub struct Counts {
     pub ranges: usize,
 }
 
-// What is counted.
+/// What is counted.
 #[derive(Clone, Copy)]
 pub enum Kind {
     IsRegistered,
@@ -25,7 +25,7 @@ pub enum Kind {
     Leads,
 }
 
-// Whether a read is of a kind.
+/// Whether a read is of a kind.
 fn is_kind(kind: Kind, id: u64, stage: &Stage) -> bool
     ensures { result ≡ is_of kind id stage.now }
 {
@@ -46,7 +46,7 @@ fn is_kind(kind: Kind, id: u64, stage: &Stage) -> bool
     }
 }
 
-// How many reads are of a kind.
+/// How many reads are of a kind.
 pub fn count_kind(reads: &BTreeMap<u64, Read>, kind: Kind) -> usize
     ensures { result ≡ count_of kind reads.now.entries }
 {

@@ -12,7 +12,7 @@ use crate::read::{Read, Stage};
 use crate::table::Table;
 use std::ops::Range;
 
-// Whether reads are listed once each, in order.
+/// Whether reads are listed once each, in order.
 pub fn is_ordered(reads: &[ReadRequest]) -> bool
     ensures { result ≡ is_in_order reads.now }
 {
@@ -29,7 +29,7 @@ pub fn is_ordered(reads: &[ReadRequest]) -> bool
     true
 }
 
-// The greatest end of reads that lie in a range.
+/// The greatest end of reads that lie in a range.
 pub fn greatest_end_of(range: &Range<u64>, reads: &[ReadRequest]) -> u64
     requires { AllWithin range.now.start range.now.end reads.now }
     ensures { result ≡ greatest_end reads.now }
@@ -42,7 +42,7 @@ pub fn greatest_end_of(range: &Range<u64>, reads: &[ReadRequest]) -> u64
     end
 }
 
-// Whether two reads are one.
+/// Whether two reads are one.
 fn is_same_read(a: &ReadRequest, b: &ReadRequest) -> bool
     ensures { result ≡ same_read a.now b.now }
 {
@@ -52,7 +52,7 @@ fn is_same_read(a: &ReadRequest, b: &ReadRequest) -> bool
         && a.alignment.exponent() == b.alignment.exponent()
 }
 
-// Whether a stage is that of a read in flight in a span.
+/// Whether a stage is that of a read in flight in a span.
 fn is_in_span(stage: &Stage, span: u64, size: usize) -> bool
     ensures { result ≡ flies_in span size stage.now }
 {
@@ -66,7 +66,7 @@ fn is_in_span(stage: &Stage, span: u64, size: usize) -> bool
     }
 }
 
-// Whether a read that was looked up is in flight in a span.
+/// Whether a read that was looked up is in flight in a span.
 fn flies(span: u64, size: usize, request: &ReadRequest, found: Option<Read>) -> bool
     ensures { result ≡ is_flying span size request.now found }
 {
@@ -76,7 +76,7 @@ fn flies(span: u64, size: usize, request: &ReadRequest, found: Option<Read>) -> 
     }
 }
 
-// Whether reads are in flight in a span.
+/// Whether reads are in flight in a span.
 pub fn all_fly(table: &Table, span: u64, size: usize, reads: &[ReadRequest]) -> bool
     ensures { result ≡ list_all (λ r. is_flying span size r (read_at table.now r.id)) reads.now }
 {

@@ -4,8 +4,8 @@ ghost use Rattle.vx_sched.specs.Reads.{after, is_waiting, is_polled};
 
 use crate::ReadRequest;
 
-// Where a read stands. A read in flight names its span by the number of the span's first read, and
-// knows how many reads that has, and whether it was dropped meanwhile.
+/// Where a read stands. A read in flight names its span by the number of the span's first read, and
+/// knows how many reads that has, and whether it was dropped meanwhile.
 #[derive(Clone, Copy, Debug, PartialEq, Eq)]
 pub enum Stage {
     Registered,
@@ -24,7 +24,7 @@ pub struct Read {
     pub stage: Stage,
 }
 
-// What happens to a read.
+/// What happens to a read.
 #[derive(Clone, Copy, Debug, PartialEq, Eq)]
 pub enum Change {
     Poll,
@@ -33,7 +33,7 @@ pub enum Change {
     Resolve,
 }
 
-// The stage of a read after a change, or that it is gone.
+/// The stage of a read after a change, or that it is gone.
 pub fn stage_after(change: Change, stage: Stage) -> Option<Stage>
     ensures { result ≡ after change stage }
 {

@@ -43,7 +43,7 @@ impl Model for CoalescedRequest {
     ghost invariant = { λ s. (s.from ≤ s.upto) × AllWithin s.from s.upto s.served.items };
 }
 
-// The first read that does not lie in a range, and how.
+/// The first read that does not lie in a range, and how.
 fn first_outside(range: &Range<u64>, reads: &[ReadRequest]) -> Option<RangeError>
     requires { range.now.start ≤ range.now.end }
     ensures value { result ≡ outside range.now.start range.now.end reads.now }
@@ -86,7 +86,7 @@ impl CoalescedRequest {
         Ok(CoalescedRequest::within(range.start, range.end, alignment, requests))
     }
 
-    // The span of a range and reads that lie in it.
+    /// The span of a range and reads that lie in it.
     pub(crate) fn within(
         start: u64,
         end: u64,
@@ -129,7 +129,7 @@ impl CoalescedRequest {
         self.served.as_slice()
     }
 
-    // One of its reads, which lies in the range.
+    /// One of its reads, which lies in the range.
     fn served_at(&self, index: usize) -> ReadRequest
         requires { index < length self.now.reads }
         ensures at { slice_get self.now.reads index ≡ Some result }

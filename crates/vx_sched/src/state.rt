@@ -1,11 +1,11 @@
 //! The scheduler's state.
 ghost use Rattle.std.specs.Prelude.{◌≡◌, ℕ, ◌+◌, ◌<◌, ◌≤◌, ◌^◌, [], true, false, length, IfOk, IfSome, IfNone, option_map, None, Some, IsOk, OnOk, OnErr};
-ghost use Rattle.vx_sched.specs.Reads.{read_at, is_poll, all_changed};
+ghost use Rattle.vx_sched.specs.Reads.{read_at, all_changed};
 ghost use Rattle.vx_sched.specs.Span.{end_of};
-ghost use Rattle.vx_sched.specs.Merging.{raised, Merges, is_listed, span_of};
+ghost use Rattle.vx_sched.specs.Merging.{raised, Merges, span_of};
 ghost use Rattle.vx_sched.specs.Picks.{free_at};
 ghost use Rattle.vx_sched.specs.Counting.{counts_of};
-ghost use Rattle.vx_sched.specs.Scheduling.{MayHappen, polled_at, stepped, takes_no_memory, MayTake, MergesNow, MergesInTurn, ranges_in_flight, same_span, NonePolled, taken, all_taken, resolved, in_flight};
+ghost use Rattle.vx_sched.specs.Scheduling.{MayHappen, stepped, takes_no_memory, MayTake, MergesNow, MergesInTurn, ranges_in_flight, same_span, NonePolled, taken, all_taken, resolved, in_flight};
 
 use crate::batching::{add_numbers, gathered, lone};
 use crate::flying::{all_fly, greatest_end_of, is_ordered};
@@ -25,42 +25,29 @@ pub struct State {
     most: usize,
     table: Table,
     last: Option<u64>,
-    from: u64,
 }
 
 impl Model for State {
     ghost use Rattle.std.specs.Prelude.{◌≡◌, ℕ, ◌+◌, ◌≤◌, None};
     ghost use Rattle.std.specs.Option.{option_map_or};
     ghost use Rattle.vx_sched.specs.Reads.{read_at};
-    ghost use Rattle.vx_sched.specs.Scheduling.{Scheduler, NonePolledBelow};
+    ghost use Rattle.vx_sched.specs.Scheduling.{Scheduler};
 
     ghost Value = { Scheduler };
 
     ghost view = { λ s. record { window = s.gathering; alignment = s.aligned; concurrency = s.most; reads = s.table; next = option_map_or (λ n. n + 1) s.last 0 } };
 
-    ghost invariant = { λ s. (1 ≤ s.most) × ((q : ℕ) → option_map_or (λ n. n + 1) s.last 0 ≤ q → read_at s.table q ≡ None) × NonePolledBelow s.table s.from };
+    ghost invariant = { λ s. (1 ≤ s.most) × ((q : ℕ) → option_map_or (λ n. n + 1) s.last 0 ≤ q → read_at s.table q ≡ None) };
 }
 
-// Changes several reads.
+/// Changes several reads.
 fn change_all(table: &mut Table, change: Change, reads: &[ReadRequest])
     ensures changed { table.new ≡ all_changed change table.old reads.now }
     ensures none { (q : ℕ) → read_at table.old q ≡ None → read_at table.new q ≡ None }
-    ensures idle { is_poll change ≡ false → (q : ℕ) → polled_at table.old q ≡ false → polled_at table.new q ≡ false }
 {
     for read in reads {
         table.change(read.id, change);
     }
-}
-
-// The least number of some reads.
-fn least_of(reads: &[ReadRequest]) -> u64
-    ensures { (id : ℕ) → is_listed reads.now id ≡ true → result ≤ id }
-{
-    let mut least = u64::MAX;
-    for read in reads {
-        least = least.min(read.id);
-    }
-    if reads.is_empty() { 0 } else { least }
 }
 
 impl State {
@@ -86,7 +73,6 @@ impl State {
             most: concurrency,
             table: Table::new(alloc),
             last: None,
-            from: 0,
         }
     }
 
@@ -103,16 +89,13 @@ impl State {
                 self.table.register(request)?;
                 self.last = Some(id);
             }
-            ReadEvent::Polled(id) => {
-                self.table.change(id, Change::Poll);
-                self.from = self.from.min(id);
-            }
+            ReadEvent::Polled(id) => self.table.change(id, Change::Poll),
             ReadEvent::Dropped(id) => self.table.change(id, Change::Cancel),
         }
         Ok(())
     }
 
-    // The span of the next read, from what earlier spans leave.
+    /// The span of the next read, from what earlier spans leave.
     fn gather_from(
         &self,
         alloc: Global,
@@ -138,7 +121,7 @@ impl State {
     {
         let mut spans = Vec::new(alloc);
         let mut before = BTreeSet::new(alloc);
-        let mut from = self.from;
+        let mut from = 0;
         for _ in 0..most {
             let Some(first) = self.table.next_polled(from, &before) else {
                 return Ok(spans);
@@ -152,7 +135,7 @@ impl State {
         Ok(spans)
     }
 
-    // Puts the reads of a span in flight.
+    /// Puts the reads of a span in flight.
     fn take_one(&mut self, span: &CoalescedRequest)
         requires { MergesNow self.old span.now }
         ensures { self.new ≡ taken self.old span.now }
@@ -166,9 +149,7 @@ impl State {
             span: number,
             size: reads.len(),
         };
-        let least = least_of(reads);
         change_all(&mut self.table, change, reads);
-        self.from = self.from.max(least);
     }
 
     /// Puts the reads of a batch in flight.
@@ -222,7 +203,7 @@ impl State {
             && self.has_range(range)
     }
 
-    // Whether a span with reads has the range and the alignment that the settings give its reads.
+    /// Whether a span with reads has the range and the alignment that the settings give its reads.
     fn has_range(&self, range: &CoalescedRequest) -> bool
         requires { 1 ≤ length range.now.reads }
         ensures { result ≡ same_span range.now (span_of self.now.window self.now.alignment range.now.reads) }
@@ -253,7 +234,7 @@ impl State {
     }
 }
 
-// The window with room for the start to be aligned down.
+/// The window with room for the start to be aligned down.
 fn raise(window: Option<CoalesceConfig>, alignment: Alignment) -> Option<CoalesceConfig>
     ensures { result ≡ option_map (raised alignment) window }
 {
