@@ -17,7 +17,7 @@ const HEAD: &[u8] = b"VTXF\0\0\0\0";
 /// Where the segment begins.
 const SEGMENT_OFFSET: u64 = 8;
 
-/// The segment and the tables lie at multiples of 2 to the power of this many bytes.
+/// The segment lies at a multiple of 2 to the power of this many bytes.
 const SEGMENT_EXPONENT: u8 = 3;
 
 /// The ids of arrays that are known, in order of bytes.
