@@ -47,15 +47,23 @@ pub record RefusedFrom (file : List ℕ) (before now : Known) : Type 0 where
   pub outside : IsErr (vx_grammar file)
   pub asked : Grew (opened (tail_ranges (length file))) before.log now.log
 
+-- the fault of the size call
+abbrev pub size_fault : Fault
+size_fault = record { kind = ReadFault; place = Size }
+
+-- the opening range of a file with the mark of a fault
+abbrev pub tail_entry : List ℕ → Fault → Entry
+tail_entry file fault = record { offset = tail_start (length file); length = length file - tail_start (length file); mark = Some fault.kind }
+
 -- a fault of the size call, which asks no range
 pub record SizeFault (before now : Known) (fault : Fault) : Type 0 where
-  pub is : fault ≡ record { kind = ReadFault; place = Size }
+  pub is : fault ≡ size_fault
   pub asked : Grew [] before.log now.log
 
 -- a fault of the opening range, with its mark
 pub record TailFault (file : List ℕ) (before now : Known) (fault : Fault) : Type 0 where
   pub place : fault.place ≡ Range (tail_start (length file)) (length file - tail_start (length file))
-  pub asked : Grew (record { offset = tail_start (length file); length = length file - tail_start (length file); mark = Some fault.kind } ∷ []) before.log now.log
+  pub asked : Grew (tail_entry file fault ∷ []) before.log now.log
 
 -- the answer to a script has its cause, where the reader tells its bytes
 abbrev pub HasCause : List ℕ → List Step → Known → Known → Result Served ServeError → Type 0

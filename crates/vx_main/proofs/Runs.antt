@@ -1,5 +1,5 @@
 -- The cause of an answer, from the causes of its parts.
-use Rattle.std.proofs.Common.{◌≡◌, ℕ, ◌+◌, ◌≤◌, min, List, [], ◌∷◌, ◌++◌, true, Option, Some, Result, Ok, Err, ap, subst, ◌∙◌, arith}
+use Rattle.std.proofs.Common.{◌≡◌, ℕ, ◌+◌, ◌≤◌, min, List, [], ◌∷◌, ◌++◌, true, Option, Some, Result, Ok, Err, ap, subst, ◌∙◌, arith, ◌⊎◌, inl, inr}
 use Rattle.std.specs.Prelude.{Vec}
 use Rattle.std.specs.Global.{Global}
 use Rattle.std.specs.Option.{option_map}
@@ -9,13 +9,14 @@ use Rattle.vx_file.specs.declared.step.Step.{Step}
 use Rattle.vx_base.specs.Asking.{Log}
 use Rattle.vx_file.specs.Asked.{Entry, Grew, entries}
 use Rattle.vx_file.specs.Asking.{Known}
-use Rattle.vx_file.specs.Serving.{asked, repeats}
+use Rattle.vx_file.specs.declared.fault.Fault.{Fault}
+use Rattle.vx_file.specs.Serving.{asked, tail_entry, SizeFault, TailFault, RefusedFrom, repeats}
 use Rattle.vx_main.specs.Script.{script_of}
 use Rattle.vx_file.specs.Turns.{bad_replies}
 use Rattle.vx_main.specs.declared.failure.Failure.{Failure}
 use Rattle.vx_main.specs.declared.failure.Failure.TheVariants as failures
 use Rattle.vx_main.specs.Reading.{ServesText, ReaderCause, ReaderFault, StepsCause}
-use Rattle.vx_main.specs.Run.{ScriptCause, FilesKnown, FileCause, ServesFile, AskedOnce}
+use Rattle.vx_main.specs.Run.{ScriptCause, FilesKnown, FileCause, GivesBack, ServesFile, RefusesFile, LacksSize, LacksTail, AskedOnce}
 use Rattle.vx_main.specs.Streams.{SourceKnown, ReadToEnd}
 
 pub script-cause : (before now : SourceKnown) (text : List ℕ) (answer : Result (Vec Step Global) Failure) → ((t : List ℕ) → before.rest ≡ Some t → (text ≡ t) × ReadToEnd t now) → StepsCause text answer → ScriptCause before now answer
@@ -47,6 +48,13 @@ rises-through by before now opened served none counted later h = record { later 
 fresh-log : (gained : List Entry) (before now : Option Log) → before ≡ Some [] → Grew gained before now → entries now ≡ Some gained
 fresh-log gained before now fresh h = h ∙ ap (λ log. option_map (λ l. l ++ gained) (entries log)) fresh
 
+gives-back : (name : List ℕ) (before now : FilesKnown) (opened served : Known) (gained : List Entry) → Lent name before now opened served → Grew gained opened.log served.log → GivesBack name before now gained
+gives-back name before now opened served gained lent grew = record {
+  log = served.log;
+  returned = lent.returned;
+  asked = λ all told. fresh-log gained opened.log served.log (lent.fresh all told) grew;
+}
+
 serves-file : (file name : List ℕ) (script : List Step) (before now : FilesKnown) (opened served : Known) (text : List ℕ) → Lent name before now opened served → ServesText file script opened served text
     → ServesFile file name script before now text
 serves-file file name script before now opened served text lent h = record {
@@ -54,18 +62,24 @@ serves-file file name script before now opened served text lent h = record {
   footer = h.serves.footer;
   opening = h.serves.opening;
   fits = h.serves.fits;
-  log = served.log;
-  returned = lent.returned;
-  asked = λ all told. fresh-log (asked h.served) opened.log served.log (lent.fresh all told) h.serves.asked;
+  back = gives-back name before now opened served (asked h.served) lent h.serves.asked;
   bad = rises-through (bad_replies h.served.replies) before.read_faults now.read_faults opened.faults served.faults lent.faultless lent.counted lent.never_falls h.serves.bad;
   rendered = h.rendered;
 }
 
+lacks : (file name : List ℕ) (fault : Fault) (before now : FilesKnown) (opened served : Known) → Lent name before now opened served → SizeFault opened served fault ⊎ TailFault file opened served fault
+    → LacksSize name fault before now ⊎ LacksTail file name fault before now
+lacks file name fault before now opened served lent (inl h) = inl (record { is = h.is; back = gives-back name before now opened served [] lent h.asked })
+lacks file name fault before now opened served lent (inr h) = inr (record { place = h.place; back = gives-back name before now opened served (tail_entry file fault ∷ []) lent h.asked })
+
+refuses : (file name : List ℕ) (before now : FilesKnown) (opened served : Known) → Lent name before now opened served → RefusedFrom file opened served → RefusesFile file name before now
+refuses file name before now opened served lent h = record { outside = h.outside; back = gives-back name before now opened served _ lent h.asked }
+
 pub file-cause : (name : List ℕ) (script : List Step) (before now : FilesKnown) (opened served : Known) (answer : Result (Vec ℕ Global) Failure) → Lent name before now opened served
     → ((file : List ℕ) → opened.bytes ≡ Some file → ReaderCause file script opened served answer) → ReaderFault opened served answer → FileCause name script before now answer
 file-cause name script before now opened served (Ok text) lent cause read = (lent.asked, λ file told. serves-file file name script before now opened served text.items lent (cause file (lent.told file told)))
-file-cause name script before now opened served (Err (failures.Read fault)) lent cause read = (lent.asked, rises-through 1 before.read_faults now.read_faults opened.faults served.faults lent.faultless lent.counted lent.never_falls read)
-file-cause name script before now opened served (Err failures.Refused) lent cause read = (lent.asked, λ file told. cause file (lent.told file told))
+file-cause name script before now opened served (Err (failures.Read fault)) lent cause read = (lent.asked, rises-through 1 before.read_faults now.read_faults opened.faults served.faults lent.faultless lent.counted lent.never_falls read, λ file told. lacks file name fault before now opened served lent (cause file (lent.told file told)))
+file-cause name script before now opened served (Err failures.Refused) lent cause read = (lent.asked, λ file told. refuses file name before now opened served lent (cause file (lent.told file told)))
 file-cause name script before now opened served (Err failures.OutOfMemory) lent cause read = tt
 file-cause name script before now opened served (Err (failures.Line line)) lent cause read = absurd read
 file-cause name script before now opened served (Err failures.Script) lent cause read = absurd read

@@ -65,7 +65,7 @@ file-failed : (command : Option Command) → command ≡ Some Serve → (source 
 file-failed command serve source source_now files files_now name steps read distinct failures.Usage h = absurd h
 file-failed command serve source source_now files files_now name steps read distinct (failures.Line line) h = absurd h
 file-failed command serve source source_now files files_now name steps read distinct failures.Script h = absurd h
-file-failed command serve source source_now files files_now name steps read distinct failures.Refused h = (serve, λ text told. let r = read text told in record { steps = steps.items; script = r.1; distinct = distinct; read = r.0 }, h.1)
+file-failed command serve source source_now files files_now name steps read distinct failures.Refused h = (serve, λ text told. let r = read text told in record { steps = steps.items; script = r.1; distinct = distinct; read = r.0 }, λ file told. (h.1 file told).outside)
 file-failed command serve source source_now files files_now name steps read distinct (failures.Read fault) h = (serve, h.1)
 file-failed command serve source source_now files files_now name steps read distinct failures.Input h = absurd h
 file-failed command serve source source_now files files_now name steps read distinct failures.Output h = absurd h

@@ -1,12 +1,11 @@
 -- What serving a script by a reader gives, as a text.
-use Rattle.std.specs.Prelude.{◌≡◌, ℕ, true, false, List, [], Result, Ok, Err, IsErr, Vec}
+use Rattle.std.specs.Prelude.{◌≡◌, ℕ, true, false, List, [], Result, Ok, Err, Vec, ◌⊎◌}
 use Rattle.std.specs.Global.{Global}
 use Rattle.vx_base.specs.Counts.{Rises}
-use Rattle.vx_footer.specs.Opening.{vx_grammar}
 use Rattle.vx_file.specs.declared.step.Step.{Step}
 use Rattle.vx_file.specs.declared.served.Served.{Served}
 use Rattle.vx_file.specs.Asking.{Known}
-use Rattle.vx_file.specs.Serving.{ServedFrom, repeats}
+use Rattle.vx_file.specs.Serving.{ServedFrom, RefusedFrom, SizeFault, TailFault, repeats}
 use Rattle.vx_main.specs.declared.script.ScriptError.{ScriptError}
 use Rattle.vx_main.specs.declared.script.ScriptError.TheVariants.{Line, OutOfMemory}
 use Rattle.vx_main.specs.Script.{script_of}
@@ -22,8 +21,8 @@ pub record ServesText (file : List ℕ) (script : List Step) (before now : Known
 
 abbrev pub ReaderCause : List ℕ → List Step → Known → Known → Result (Vec ℕ Global) Failure → Type 0
 ReaderCause file script before now (Ok text) = ServesText file script before now text.items
-ReaderCause file script before now (Err (failures.Read fault)) = Unit {0}
-ReaderCause file script before now (Err failures.Refused) = IsErr (vx_grammar file)
+ReaderCause file script before now (Err (failures.Read fault)) = SizeFault before now fault ⊎ TailFault file before now fault
+ReaderCause file script before now (Err failures.Refused) = RefusedFrom file before now
 ReaderCause file script before now (Err failures.OutOfMemory) = Unit {0}
 ReaderCause file script before now (Err _) = ⊥
 

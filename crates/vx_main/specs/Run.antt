@@ -1,20 +1,20 @@
 -- What a run of the program answers.
-use Rattle.std.specs.Prelude.{◌≡◌, ℕ, ℤ, true, false, List, [], ◌∷◌, ◌++◌, length, codes, decimal, Option, Some, None, Result, Ok, Err, IsErr, ◌⊎◌, Vec}
+use Rattle.std.specs.Prelude.{◌≡◌, ℕ, ℤ, ◌-◌, true, false, List, [], ◌∷◌, ◌++◌, length, codes, decimal, Option, Some, None, Result, Ok, Err, IsErr, ◌⊎◌, Vec}
 use Rattle.std.specs.Global.{Global}
 use Rattle.std.specs.Option.{option_map}
 use Rattle.vx_base.specs.Asking.{Log}
 use Rattle.vx_base.specs.Counts.{Rises}
 use Rattle.vx_base.specs.Returning.{Returned}
 use Rattle.vx_base.specs.Taking.{SinkKnown, Took, TookPrefix}
-use Rattle.vx_footer.specs.Opening.{vx_grammar}
+use Rattle.vx_footer.specs.Opening.{vx_grammar, tail_start}
 use Rattle.vx_file.specs.declared.fault.Fault.{Fault}
 use Rattle.vx_file.specs.declared.fault.Place.{Place}
 use Rattle.vx_file.specs.declared.fault.Place.TheVariants.{Size, Range}
 use Rattle.vx_file.specs.declared.step.Step.{Step}
 use Rattle.vx_file.specs.declared.served.Served.{Served}
-use Rattle.vx_file.specs.Asked.{entries}
+use Rattle.vx_file.specs.Asked.{Entry, entries}
 use Rattle.vx_file.specs.Fits.{Fits}
-use Rattle.vx_file.specs.Serving.{asked, world_of, tail_ranges, repeats}
+use Rattle.vx_file.specs.Serving.{asked, opened, world_of, tail_ranges, tail_entry, size_fault, repeats}
 use Rattle.vx_file.specs.Turns.{bad_replies}
 use Rattle.vx_main.specs.declared.command.Command.{Command}
 use Rattle.vx_main.specs.declared.command.Command.TheVariants.{Help, Version, Serve, Demo}
@@ -96,26 +96,46 @@ pub record FilesKnown : Type 0 where
 abbrev pub AskedOnce : List ℕ → FilesKnown → FilesKnown → Type 0
 AskedOnce name before now = now.asked ≡ option_map (λ names. names ++ name ∷ []) before.asked
 
+-- one reader was taken back, which had been asked exactly for these ranges
+pub record GivesBack (name : List ℕ) (before now : FilesKnown) (ranges : List Entry) : Type 0 where
+  pub log : Option Log
+  pub returned : now.returned ≡ option_map (λ all. all ++ record { name = name; log = log } ∷ []) before.returned
+  pub asked : (all : List Returned) → before.returned ≡ Some all → entries log ≡ Some ranges
+
 -- A script was served from the file of a name, and this is the text of it: the footer is that of the
--- grammar, the replies fit the script, one for each step, and one reader was taken back, which had been
--- asked exactly for the ranges of opening and of the drives.
+-- grammar, the replies fit the script, one for each step, and the reader had been asked exactly for the
+-- ranges of opening and of the drives.
 pub record ServesFile (file name : List ℕ) (script : List Step) (before now : FilesKnown) (text : List ℕ) : Type 0 where
   pub served : Served
   pub footer : vx_grammar file ≡ Ok served.footer
   pub opening : served.opening ≡ tail_ranges (length file)
   pub fits : Fits (world_of file served.footer) [] script served.replies
-  pub log : Option Log
-  pub returned : now.returned ≡ option_map (λ all. all ++ record { name = name; log = log } ∷ []) before.returned
-  pub asked : (all : List Returned) → before.returned ≡ Some all → entries log ≡ Some (asked served)
+  pub back : GivesBack name before now (asked served)
   pub bad : Rises (bad_replies served.replies) before.read_faults now.read_faults
   pub rendered : text ≡ render_text served
+
+-- the file is outside the grammar, and the reader had been asked for the opening ranges alone
+pub record RefusesFile (file name : List ℕ) (before now : FilesKnown) : Type 0 where
+  pub outside : IsErr (vx_grammar file)
+  pub back : GivesBack name before now (opened (tail_ranges (length file)))
+
+-- the size could not be had, and the reader had been asked for no range
+pub record LacksSize (name : List ℕ) (fault : Fault) (before now : FilesKnown) : Type 0 where
+  pub is : fault ≡ size_fault
+  pub back : GivesBack name before now []
+
+-- the opening range could not be read, which the fault names
+pub record LacksTail (file name : List ℕ) (fault : Fault) (before now : FilesKnown) : Type 0 where
+  pub place : fault.place ≡ Range (tail_start (length file)) (length file - tail_start (length file))
+  pub back : GivesBack name before now (tail_entry file fault ∷ [])
 
 -- what serving the file of a name gave has its cause
 abbrev pub FileCause : List ℕ → List Step → FilesKnown → FilesKnown → Result (Vec ℕ Global) Failure → Type 0
 FileCause name script before now (Ok text) = AskedOnce name before now × ((file : List ℕ) → before.file ≡ Some file → ServesFile file name script before now text.items)
 FileCause name script before now (Err failures.Open) = AskedOnce name before now × Rises 1 before.faults now.faults
-FileCause name script before now (Err (failures.Read fault)) = AskedOnce name before now × Rises 1 before.read_faults now.read_faults
-FileCause name script before now (Err failures.Refused) = AskedOnce name before now × ((file : List ℕ) → before.file ≡ Some file → IsErr (vx_grammar file))
+FileCause name script before now (Err (failures.Read fault)) =
+    AskedOnce name before now × Rises 1 before.read_faults now.read_faults × ((file : List ℕ) → before.file ≡ Some file → LacksSize name fault before now ⊎ LacksTail file name fault before now)
+FileCause name script before now (Err failures.Refused) = AskedOnce name before now × ((file : List ℕ) → before.file ≡ Some file → RefusesFile file name before now)
 FileCause name script before now (Err failures.OutOfMemory) = Unit {0}
 FileCause name script before now (Err _) = ⊥
 
