@@ -1,5 +1,6 @@
 -- The spans of a batch.
-use Rattle.std.proofs.Common.{◌≡◌, ℕ, ◌<◌, ◌≤◌, ◌||◌, max, Bool, true, false, cond, List, [], ◌∷◌, ◌++◌, length, Option, Some, None, refl, ap, sym, ◌∙◌, subst, arith, append_assoc}
+use Rattle.std.proofs.Common.{◌≡◌, ℕ, ◌==◌, min, ◌<◌, ◌≤◌, ◌||◌, max, Bool, true, false, cond, List, [], ◌∷◌, ◌++◌, length, Option, Some, None, refl, ap, sym, ◌∙◌, subst, arith, append_assoc}
+use Rattle.std.proofs.lemmas.Bool.Decides.{nat_tests}
 use Rattle.std.proofs.lemmas.Bool.{cases_lt}
 use Rattle.std.proofs.lemmas.List.{append-nil}
 use Rattle.std.proofs.Math.Logic.{⊎_elim}
@@ -9,7 +10,7 @@ use Rattle.std.specs.BTreeSet.{BTreeSet, contains}
 use Rattle.std.specs.Ordering.{nat_cmp}
 use Rattle.vx_base.specs.declared.segment.CoalesceConfig.{CoalesceConfig}
 use Rattle.vx_sched.specs.Span.{Span, end_of, AllWithin}
-use Rattle.vx_sched.specs.Reads.{read_at, waiting_at, if_waiting, is_waiting, is_polled}
+use Rattle.vx_sched.specs.Reads.{Reads, read_at, waiting_at, if_waiting, is_waiting, is_polled}
 use Rattle.vx_sched.specs.Merging.{Merges, GathersIn, is_listed, is_in_order, is_in_order_after, is_before, first_offset, first_number, greatest_end}
 use Rattle.vx_sched.specs.Picks.{free_at}
 use Rattle.vx_sched.specs.Scheduling.{Scheduler, polled_at, if_polled, IsNext, NonePolled, NonePolledBelow, taken, all_taken, MergesNow, MergesInTurn}
@@ -179,3 +180,27 @@ module _ (s : Scheduler) (spans : List Span) (before : BTreeSet ℕ) (from : ℕ
 -- the spans so far merge in turn
 pub so_far-merge : (s : Scheduler) (spans : List Span) (before : BTreeSet ℕ) (from : ℕ) → SoFar s spans before from → MergesInTurn s spans
 so_far-merge s spans before from f = rw append-nil at (f.turn [] tt)
+
+-- one more number that was looked at
+pub least-step : (r : ReadRequest) (rest : List ReadRequest) (least id : ℕ) → (is_listed (r ∷ rest) id ≡ false → least ≤ id) → is_listed rest id ≡ false → min least r.id ≤ id
+least-step r rest least id before h = at (r.id == id) refl
+  where
+    at : (b : Bool) → (r.id == id) ≡ b → min least r.id ≤ id
+    at true e =
+        let same : r.id ≡ id = grind (arith, nat_tests) in
+        omega arith
+    at false e =
+        let held = before (ap (λ b. b || is_listed rest id) e ∙ h) in
+        omega (arith, held)
+
+-- no polled read below a taken span's numbers is left
+pub idle-taken : (s : Scheduler) (span : Span) (from least : ℕ) (reads : Reads) → MergesNow s span → NonePolledBelow s.reads from
+    → ((id : ℕ) → is_listed span.reads id ≡ true → least ≤ id) → ((q : ℕ) → polled_at s.reads q ≡ false → polled_at reads q ≡ false)
+    → NonePolledBelow reads (max from least)
+idle-taken s span from least reads m idle below keeps q l =
+    keeps q (⊎_elim (λ (h : q < from). idle q h)
+    (λ (h : from ≤ q).
+    let bound = below m.next m.merges.serves in
+    let early : q < m.next = omega (arith, bound) in
+    m.is_next.least q early)
+    (cases_lt q from))

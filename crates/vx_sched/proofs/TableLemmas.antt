@@ -8,9 +8,10 @@ use Rattle.std.specs.BTreeMap.Range.{range_contains}
 use Rattle.std.specs.declared.ops.Bound.TheVariants.{Included}
 use Rattle.std.specs.Ordering.{nat_cmp}
 use Rattle.vx_sched.specs.Span.{end_of}
-use Rattle.vx_sched.specs.Reads.{Reads, read_at, waiting_at, if_waiting, is_waiting, after}
+use Rattle.vx_sched.specs.Reads.{Reads, read_at, waiting_at, if_waiting, is_waiting, is_polled, is_poll, after}
 use Rattle.vx_sched.specs.Scheduling.{polled_at, if_polled}
-use Rattle.vx_sched.specs.Places.{place_cmp, waits_at, stays_waiting, stays_polled, IsTable, IsList}
+use Rattle.std.specs.Option.{option_map_or}
+use Rattle.vx_sched.specs.Places.{place_cmp, waits_at, stays_waiting, IsTable}
 use Rattle.vx_sched.specs.declared.request.ReadRequest.{ReadRequest}
 use Rattle.vx_sched.specs.declared.read.Read.{Read}
 use Rattle.vx_sched.specs.declared.read.Stage.{Stage}
@@ -243,6 +244,42 @@ near-complete reads places left right ids t e id r h l u =
     let inside : range_contains place_cmp (Included (left, 0)) (Included (right, 18446744073709551615)) (r.offset, id) ≡ true = grind (arith, nat_tests) in
     rw e (near-listed (range_contains place_cmp (Included (left, 0)) (Included (right, 18446744073709551615))) r.offset id inside places.keys (waiting-placed reads places t id r h))
 
+-- no change but a poll polls a read
+after-polled : (c : Change) (stage : Stage) → is_poll c ≡ false → is_polled stage ≡ false → (t : Stage) → after c stage ≡ Some t → is_polled t ≡ false
+after-polled Poll stage p h t e = cc
+after-polled Cancel Registered p h t e = cc
+after-polled Cancel Polled p h t e = cc
+after-polled Cancel (InFlight a b d) p h t e = subst (λ (o : Option Stage). option_map_or is_polled o false ≡ false) e refl
+after-polled Cancel Resolved p h t e = cc
+after-polled (Take x y) Registered p h t e = subst (λ (o : Option Stage). option_map_or is_polled o false ≡ false) e refl
+after-polled (Take x y) Polled p h t e = cc
+after-polled (Take x y) (InFlight a b d) p h t e = subst (λ (o : Option Stage). option_map_or is_polled o false ≡ false) e refl
+after-polled (Take x y) Resolved p h t e = subst (λ (o : Option Stage). option_map_or is_polled o false ≡ false) e refl
+after-polled Resolve Registered p h t e = subst (λ (o : Option Stage). option_map_or is_polled o false ≡ false) e refl
+after-polled Resolve Polled p h t e = cc
+after-polled Resolve (InFlight a b true) p h t e = cc
+after-polled Resolve (InFlight a b false) p h t e = subst (λ (o : Option Stage). option_map_or is_polled o false ≡ false) e refl
+after-polled Resolve Resolved p h t e = subst (λ (o : Option Stage). option_map_or is_polled o false ≡ false) e refl
+
+-- what is polled after a change was polled before
+pub idle-changed : (c : Change) (reads reads' : Reads) (id : ℕ) (x : Read) → is_poll c ≡ false → read_at reads id ≡ Some x
+    → ((q : ℕ) → read_at reads' q ≡ cond (is_at (nat_cmp id) q) (option_map (λ s. record { request = x.request; stage = s }) (after c x.stage)) (read_at reads q))
+    → (q : ℕ) → polled_at reads q ≡ false → polled_at reads' q ≡ false
+idle-changed c reads reads' id x p found lookups q h = at (id == q) refl
+  where
+    put : (t : Option Stage) → after c x.stage ≡ t → is_polled x.stage ≡ false → if_polled (option_map (λ s. record { request = x.request; stage = s }) t) ≡ false
+    put None e k = refl
+    put (Some t) e k = after-polled c x.stage p k t e
+
+    at : (b : Bool) → (id == q) ≡ b → polled_at reads' q ≡ false
+    at true e =
+        let same : id ≡ q = grind (arith, nat_tests) in
+        let here : read_at reads q ≡ Some x = subst (λ n. read_at reads n ≡ Some x) same found in
+        ap if_polled (lookups q ∙ ap (λ b. cond b (option_map (λ s. record { request = x.request; stage = s }) (after c x.stage)) (read_at reads q)) (at-eq id q ∙ e))
+        ∙ put (after c x.stage) refl (sym (ap if_polled here) ∙ h)
+    at false e =
+        ap if_polled (lookups q ∙ ap (λ b. cond b (option_map (λ s. record { request = x.request; stage = s }) (after c x.stage)) (read_at reads q)) (at-eq id q ∙ e)) ∙ h
+
 -- a change of one number leaves others
 pub others-changed : (c : Change) (reads reads' : Reads) (id : ℕ) (x : Read)
     → ((q : ℕ) → read_at reads' q ≡ cond (is_at (nat_cmp id) q) (option_map (λ s. record { request = x.request; stage = s }) (after c x.stage)) (read_at reads q))
@@ -250,56 +287,12 @@ pub others-changed : (c : Change) (reads reads' : Reads) (id : ℕ) (x : Read)
 others-changed c reads reads' id x lookups q e =
     lookups q ∙ ap (λ b. cond b (option_map (λ s. record { request = x.request; stage = s }) (after c x.stage)) (read_at reads q)) (at-eq id q ∙ e)
 
--- what was polled is listed after a change of one number
-pub changed-list : (reads reads' listed listed' : Reads) (upto upto' id : ℕ) (r : ReadRequest) (stage : Option Stage) → IsList reads listed upto
-    → ((q : ℕ) → read_at reads' q ≡ cond (is_at (nat_cmp id) q) (option_map (λ s. record { request = r; stage = s }) stage) (read_at reads q))
-    → ((x : Read) → read_at listed' id ≡ Some x → option_map (λ s. record { request = r; stage = s }) stage ≡ Some x)
-    → (stays_polled stage ≡ true → id < upto' → polled_at listed' id ≡ true)
-    → ((q : ℕ) → (id == q) ≡ false → read_at listed' q ≡ read_at listed q) → upto' ≤ upto → IsList reads' listed' upto'
-changed-list reads reads' listed listed' upto upto' id r stage old lookups here polled others bound = record {
-  sound = λ q x h. sound q (id == q) refl x h;
-  complete = λ q l p. complete q (id == q) refl l p;
-}
-  where
-    found-at : (q : ℕ) → read_at reads' q ≡ cond (id == q) (option_map (λ s. record { request = r; stage = s }) stage) (read_at reads q)
-    found-at q = lookups q ∙ ap (λ b. cond b (option_map (λ s. record { request = r; stage = s }) stage) (read_at reads q)) (at-eq id q)
-
-    sound : (q : ℕ) (b : Bool) → (id == q) ≡ b → (x : Read) → read_at listed' q ≡ Some x → read_at reads' q ≡ Some x
-    sound q true e x h =
-        let same : q ≡ id = grind (arith, nat_tests) in
-        found-at q ∙ ap (λ b. cond b (option_map (λ s. record { request = r; stage = s }) stage) (read_at reads q)) e ∙ here x (subst (λ n. read_at listed' n ≡ Some x) same h)
-    sound q false e x h =
-        found-at q ∙ ap (λ b. cond b (option_map (λ s. record { request = r; stage = s }) stage) (read_at reads q)) e ∙ old.sound q x (sym (others q e) ∙ h)
-
-    stays : (t : Option Stage) → if_polled (option_map (λ s. record { request = r; stage = s }) t) ≡ true → stays_polled t ≡ true
-    stays None h = cc
-    stays (Some s) h = h
-
-    complete : (q : ℕ) (b : Bool) → (id == q) ≡ b → q < upto' → polled_at reads' q ≡ true → polled_at listed' q ≡ true
-    complete q true e l p =
-        let same : id ≡ q = grind (arith, nat_tests) in
-        let value = found-at q ∙ ap (λ b. cond b (option_map (λ s. record { request = r; stage = s }) stage) (read_at reads q)) e in
-        subst (λ n. polled_at listed' n ≡ true) same (polled (stays stage (sym (ap if_polled value) ∙ p)) (omega arith))
-    complete q false e l p =
-        let value = found-at q ∙ ap (λ b. cond b (option_map (λ s. record { request = r; stage = s }) stage) (read_at reads q)) e in
-        ap if_polled (others q e) ∙ old.complete q (omega arith) (sym (ap if_polled value) ∙ p)
-
--- and after a new read
-pub added-list : (reads reads' listed : Reads) (upto : ℕ) (r : ReadRequest) → IsList reads listed upto → read_at reads r.id ≡ None
+-- a new read is not polled
+pub idle-added : (reads reads' : Reads) (r : ReadRequest)
     → ((q : ℕ) → read_at reads' q ≡ cond (is_at (nat_cmp r.id) q) (Some (record { request = r; stage = Registered })) (read_at reads q))
-    → IsList reads' listed upto
-added-list reads reads' listed upto r old fresh lookups = record {
-  sound = λ q x h. sound (r.id == q) q refl x (old.sound q x h);
-  complete = λ q l p. complete (is_at (nat_cmp r.id) q) q (lookups q) l p;
-}
+    → (q : ℕ) → polled_at reads q ≡ false → polled_at reads' q ≡ false
+idle-added reads reads' r lookups q h = at (is_at (nat_cmp r.id) q) (lookups q)
   where
-    sound : (b : Bool) (q : ℕ) → (r.id == q) ≡ b → (x : Read) → read_at reads q ≡ Some x → read_at reads' q ≡ Some x
-    sound true q e x h =
-        let same : r.id ≡ q = grind (arith, nat_tests) in
-        cc (sym h ∙ subst (λ n. read_at reads n ≡ None) same fresh)
-    sound false q e x h = lookups q ∙ ap (λ b. cond b (Some (record { request = r; stage = Registered })) (read_at reads q)) (at-eq r.id q ∙ e) ∙ h
-
-    complete : (b : Bool) (q : ℕ) → read_at reads' q ≡ cond b (Some (record { request = r; stage = Registered })) (read_at reads q) → q < upto
-        → polled_at reads' q ≡ true → polled_at listed q ≡ true
-    complete true q e l p = cc (sym (ap if_polled e) ∙ p)
-    complete false q e l p = old.complete q l (sym (ap if_polled e) ∙ p)
+    at : (b : Bool) → read_at reads' q ≡ cond b (Some (record { request = r; stage = Registered })) (read_at reads q) → polled_at reads' q ≡ false
+    at true e = ap if_polled e
+    at false e = ap if_polled e ∙ h

@@ -1,11 +1,10 @@
 -- The places of waiting reads: their offsets and numbers.
-use Rattle.std.specs.Prelude.{◌≡◌, ℕ, ◌<◌, ◌^◌, ◌==◌, ◌&&◌, Bool, true, false, Option, Some, None}
+use Rattle.std.specs.Prelude.{◌≡◌, ℕ, ◌<◌, ◌^◌, ◌==◌, ◌&&◌, Bool, false, Option, Some, None}
 use Rattle.std.specs.BTreeSet.{BTreeSet, contains}
 use Rattle.std.specs.Ordering.{nat_cmp, ordering_then}
 use Rattle.std.specs.declared.cmp.Ordering.{Ordering}
 use Rattle.vx_sched.specs.Span.{end_of}
-use Rattle.vx_sched.specs.Reads.{Reads, read_at, waiting_at, is_waiting, is_polled}
-use Rattle.vx_sched.specs.Scheduling.{polled_at}
+use Rattle.vx_sched.specs.Reads.{Reads, read_at, waiting_at, is_waiting}
 use Rattle.vx_sched.specs.declared.request.ReadRequest.{ReadRequest}
 use Rattle.vx_sched.specs.declared.read.Read.{Read}
 use Rattle.vx_sched.specs.declared.read.Stage.{Stage}
@@ -34,13 +33,3 @@ pub record IsTable (reads : Reads) (places : BTreeSet (ℕ × ℕ)) : Type 0 whe
 -- each waiting read ends in range
 abbrev pub AllFit : Reads → Type 0
 AllFit reads = (id : ℕ) (r : ReadRequest) → waiting_at reads id ≡ Some r → end_of r < 2 ^ 64
-
--- whether a read was polled and waits in a stage, if it has one
-abbrev pub stays_polled : Option Stage → Bool
-stays_polled None = false
-stays_polled (Some stage) = is_polled stage
-
--- a list of reads, with each that was polled and waits and whose number is below another
-pub record IsList (reads listed : Reads) (upto : ℕ) : Type 0 where
-  pub sound : (q : ℕ) (x : Read) → read_at listed q ≡ Some x → read_at reads q ≡ Some x
-  pub complete : (q : ℕ) → q < upto → polled_at reads q ≡ true → polled_at listed q ≡ true

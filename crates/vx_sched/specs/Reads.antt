@@ -46,6 +46,13 @@ waiting_at reads id = if_waiting (read_at reads id)
 abbrev pub next_polled : Reads → Option ReadRequest
 next_polled reads = option_map (λ e. e.1.request) (find (λ e. is_polled e.1.stage) reads)
 
+-- whether a change polls a read
+abbrev pub is_poll : Change → Bool
+is_poll Poll = true
+is_poll Cancel = false
+is_poll (Take _ _) = false
+is_poll Resolve = false
+
 -- the stage of a read after a change, or that it is gone
 abbrev pub after : Change → Stage → Option Stage
 after Poll Registered = Some Polled

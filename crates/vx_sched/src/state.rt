@@ -1,11 +1,11 @@
 //! The scheduler's state.
 ghost use Rattle.std.specs.Prelude.{◌≡◌, ℕ, ◌+◌, ◌<◌, ◌≤◌, ◌^◌, [], true, false, length, IfOk, IfSome, IfNone, option_map, None, Some, IsOk, OnOk, OnErr};
-ghost use Rattle.vx_sched.specs.Reads.{read_at, all_changed};
+ghost use Rattle.vx_sched.specs.Reads.{read_at, is_poll, all_changed};
 ghost use Rattle.vx_sched.specs.Span.{end_of};
-ghost use Rattle.vx_sched.specs.Merging.{raised, Merges, span_of};
+ghost use Rattle.vx_sched.specs.Merging.{raised, Merges, is_listed, span_of};
 ghost use Rattle.vx_sched.specs.Picks.{free_at};
 ghost use Rattle.vx_sched.specs.Counting.{counts_of};
-ghost use Rattle.vx_sched.specs.Scheduling.{MayHappen, stepped, takes_no_memory, MayTake, MergesNow, MergesInTurn, ranges_in_flight, same_span, NonePolled, taken, all_taken, resolved, in_flight};
+ghost use Rattle.vx_sched.specs.Scheduling.{MayHappen, polled_at, stepped, takes_no_memory, MayTake, MergesNow, MergesInTurn, ranges_in_flight, same_span, NonePolled, taken, all_taken, resolved, in_flight};
 
 use crate::batching::{add_numbers, gathered, lone};
 use crate::flying::{all_fly, greatest_end_of, is_ordered};
@@ -25,29 +25,44 @@ pub struct State {
     most: usize,
     table: Table,
     last: Option<u64>,
+    /// No polled read has a number below this. The next read is looked for from here on, so that no
+    /// memory is needed to remember which reads were polled.
+    from: u64,
 }
 
 impl Model for State {
     ghost use Rattle.std.specs.Prelude.{◌≡◌, ℕ, ◌+◌, ◌≤◌, None};
     ghost use Rattle.std.specs.Option.{option_map_or};
     ghost use Rattle.vx_sched.specs.Reads.{read_at};
-    ghost use Rattle.vx_sched.specs.Scheduling.{Scheduler};
+    ghost use Rattle.vx_sched.specs.Scheduling.{Scheduler, NonePolledBelow};
 
     ghost Value = { Scheduler };
 
     ghost view = { λ s. record { window = s.gathering; alignment = s.aligned; concurrency = s.most; reads = s.table; next = option_map_or (λ n. n + 1) s.last 0 } };
 
-    ghost invariant = { λ s. (1 ≤ s.most) × ((q : ℕ) → option_map_or (λ n. n + 1) s.last 0 ≤ q → read_at s.table q ≡ None) };
+    ghost invariant = { λ s. (1 ≤ s.most) × ((q : ℕ) → option_map_or (λ n. n + 1) s.last 0 ≤ q → read_at s.table q ≡ None) × NonePolledBelow s.table s.from };
 }
 
 /// Changes several reads.
 fn change_all(table: &mut Table, change: Change, reads: &[ReadRequest])
     ensures changed { table.new ≡ all_changed change table.old reads.now }
     ensures none { (q : ℕ) → read_at table.old q ≡ None → read_at table.new q ≡ None }
+    ensures idle { is_poll change ≡ false → (q : ℕ) → polled_at table.old q ≡ false → polled_at table.new q ≡ false }
 {
     for read in reads {
         table.change(read.id, change);
     }
+}
+
+/// The least number of some reads.
+fn least_of(reads: &[ReadRequest]) -> u64
+    ensures { (id : ℕ) → is_listed reads.now id ≡ true → result ≤ id }
+{
+    let mut least = u64::MAX;
+    for read in reads {
+        least = least.min(read.id);
+    }
+    if reads.is_empty() { 0 } else { least }
 }
 
 impl State {
@@ -73,6 +88,7 @@ impl State {
             most: concurrency,
             table: Table::new(alloc),
             last: None,
+            from: 0,
         }
     }
 
@@ -89,7 +105,10 @@ impl State {
                 self.table.register(request)?;
                 self.last = Some(id);
             }
-            ReadEvent::Polled(id) => self.table.change(id, Change::Poll),
+            ReadEvent::Polled(id) => {
+                self.table.change(id, Change::Poll);
+                self.from = self.from.min(id);
+            }
             ReadEvent::Dropped(id) => self.table.change(id, Change::Cancel),
         }
         Ok(())
@@ -121,7 +140,7 @@ impl State {
     {
         let mut spans = Vec::new(alloc);
         let mut before = BTreeSet::new(alloc);
-        let mut from = 0;
+        let mut from = self.from;
         for _ in 0..most {
             let Some(first) = self.table.next_polled(from, &before) else {
                 return Ok(spans);
@@ -149,7 +168,9 @@ impl State {
             span: number,
             size: reads.len(),
         };
+        let least = least_of(reads);
         change_all(&mut self.table, change, reads);
+        self.from = self.from.max(least);
     }
 
     /// Puts the reads of a batch in flight.
@@ -182,7 +203,10 @@ impl State {
     {
         let mut batch = self.batch(alloc, 1)?;
         match batch.pop() {
-            None => Ok(None),
+            None => {
+                self.from = u64::MAX;
+                Ok(None)
+            }
             Some(span) => {
                 self.take_one(&span);
                 Ok(Some(span))

@@ -1,5 +1,4 @@
-//! The reads of a scheduler, by number, the places of those that wait, and a list of those that were
-//! polled and wait, so that the next one is found at once.
+//! The reads of a scheduler, by number, and the places of those that wait.
 ghost use Rattle.std.specs.Prelude.{◌≡◌, ℕ, ◌==◌, ◌<◌, ◌≤◌, map, IfOk, ◌^◌, [], None, Some, cond, true, false, ◌&&◌, not, IsSome, IfSome, IfNone, OnOk, OnErr, option_map};
 ghost use Rattle.std.specs.BTreeMap.{insert_entry, is_at};
 ghost use Rattle.std.specs.BTreeSet.{contains, keys_between};
@@ -8,8 +7,8 @@ ghost use Rattle.std.specs.declared.ops.Bound.TheVariants.{Included};
 ghost use Rattle.vx_sched.specs.declared.request.ReadRequest.{ReadRequest};
 ghost use Rattle.std.specs.Ordering.{nat_cmp};
 ghost use Rattle.vx_sched.specs.Span.{end_of};
-ghost use Rattle.vx_sched.specs.Reads.{read_at, waiting_at, changed, with_stage, is_waiting, is_polled};
-ghost use Rattle.vx_sched.specs.Places.{AllFit, place_cmp, stays_waiting, stays_polled};
+ghost use Rattle.vx_sched.specs.Reads.{read_at, waiting_at, changed, with_stage, is_waiting, is_polled, is_poll};
+ghost use Rattle.vx_sched.specs.Places.{AllFit, place_cmp, stays_waiting};
 ghost use Rattle.vx_sched.specs.Scheduling.{polled_at};
 ghost use Rattle.vx_sched.specs.Counting.{counts_of};
 
@@ -20,27 +19,22 @@ use std::alloc::{AllocError, Global};
 use std::collections::{BTreeMap, BTreeSet};
 use std::marker::Model;
 
-/// The reads by number, and the places of those that wait. The polled ones of these whose numbers are
-/// below `upto` are listed again, so that the next one is found at once. A poll must not fail: where it
-/// finds no memory for the list, the list ends there, and from there on the next read is looked for
-/// among all.
+/// The reads by number, and the places of those that wait.
 #[derive(Drop)]
 pub struct Table {
     reads: BTreeMap<u64, Read>,
     places: BTreeSet<(u64, u64)>,
-    listed: BTreeMap<u64, Read>,
-    upto: u64,
 }
 
 impl Model for Table {
     ghost use Rattle.vx_sched.specs.Reads.{Reads};
-    ghost use Rattle.vx_sched.specs.Places.{IsTable, IsList};
+    ghost use Rattle.vx_sched.specs.Places.{IsTable};
 
     ghost Value = { Reads };
 
     ghost view = { λ t. t.reads.entries };
 
-    ghost invariant = { λ t. IsTable t.reads.entries t.places × IsList t.reads.entries t.listed.entries t.upto };
+    ghost invariant = { λ t. IsTable t.reads.entries t.places };
 }
 
 /// Adds a read and its place, or neither.
@@ -109,35 +103,6 @@ fn leave(places: &mut BTreeSet<(u64, u64)>, read: &Read, stage: Option<Stage>)
     }
 }
 
-/// Lists a read where it was polled and waits, or else takes it off the list. Gives the number up to
-/// which all are listed then.
-fn list(
-    listed: &mut BTreeMap<u64, Read>,
-    upto: u64,
-    id: u64,
-    request: ReadRequest,
-    stage: Option<Stage>,
-) -> u64
-    ensures sound { (x : Read) → read_at listed.new.entries id ≡ Some x →
-        option_map (λ s. record { request = request; stage = s }) stage ≡ Some x }
-    ensures complete { stays_polled stage ≡ true → id < result → polled_at listed.new.entries id ≡ true }
-    ensures others { (q : ℕ) → (id == q) ≡ false → read_at listed.new.entries q ≡ read_at listed.old.entries q }
-    ensures bound { result ≤ upto }
-{
-    let Some(Stage::Polled) = stage else {
-        listed.remove(&id);
-        return upto;
-    };
-    let read = Read {
-        request,
-        stage: Stage::Polled,
-    };
-    match listed.insert(id, read) {
-        Ok(_) => upto,
-        Err(_) => upto.min(id),
-    }
-}
-
 /// The numbers at the places whose offsets lie in bounds, in order.
 fn numbers_between(
     alloc: Global,
@@ -185,26 +150,6 @@ fn first_polled(
     None
 }
 
-/// The listed read of least number, from a number on and below another, that is not among some.
-fn first_listed(
-    listed: &BTreeMap<u64, Read>,
-    from: u64,
-    upto: u64,
-    taken: &BTreeSet<u64>,
-) -> Option<(u64, ReadRequest)>
-    ensures found { IfSome result (λ p. read_at listed.now.entries p.0
-        ≡ Some (record { request = p.1; stage = Stage.Polled })) }
-    ensures fresh { IfSome result (λ p. contains nat_cmp taken.now p.0 ≡ false) }
-    ensures below { IfSome result (λ p. p.0 < upto) }
-    ensures least { IfSome result (λ p. (q : ℕ) → from ≤ q → q < p.0 → polled_at listed.now.entries q ≡ true →
-        contains nat_cmp taken.now q ≡ true) }
-    ensures none { IfNone result ((q : ℕ) → from ≤ q → q < upto → polled_at listed.now.entries q ≡ true →
-        contains nat_cmp taken.now q ≡ true) }
-{
-    let (id, request) = first_polled(listed, from, taken)?;
-    if id < upto { Some((id, request)) } else { None }
-}
-
 impl Table {
     pub fn new(alloc: Global) -> Table
         ensures { result ≡ [] }
@@ -212,8 +157,6 @@ impl Table {
         Table {
             reads: BTreeMap::new(alloc),
             places: BTreeSet::new(alloc),
-            listed: BTreeMap::new(alloc),
-            upto: u64::MAX,
         }
     }
 
@@ -247,11 +190,10 @@ impl Table {
         ensures none { IfNone result ((q : ℕ) → from ≤ q → polled_at self.now q ≡ true →
             contains nat_cmp taken.now q ≡ true) }
     {
-        if let Some((_, request)) = first_listed(&self.listed, from, self.upto, taken) {
-            return Some(request);
+        match first_polled(&self.reads, from, taken) {
+            Some((_, request)) => Some(request),
+            None => None,
         }
-        let (_, request) = first_polled(&self.reads, from.max(self.upto), taken)?;
-        Some(request)
     }
 
     /// The numbers of the waiting reads whose offsets lie in bounds, in order. Only memory refuses.
@@ -285,23 +227,23 @@ impl Table {
         ensures registered { OnOk result (self.new ≡ insert_entry nat_cmp self.old request.id
             (record { request = request; stage = Stage.Registered })) }
         ensures others { OnOk result ((q : ℕ) → request.id < q → read_at self.new q ≡ read_at self.old q) }
+        ensures idle { OnOk result ((q : ℕ) → polled_at self.old q ≡ false → polled_at self.new q ≡ false) }
         ensures kept { OnErr result (self.new ≡ self.old) }
     {
-        add(&mut self.reads, &mut self.places, request)?;
-        Ok(())
+        add(&mut self.reads, &mut self.places, request)
     }
 
     /// Changes the read of a number, if there is one.
     pub fn change(&mut self, id: u64, change: Change)
         ensures changed { self.new ≡ changed change self.old id }
         ensures others { (q : ℕ) → (id == q) ≡ false → read_at self.new q ≡ read_at self.old q }
+        ensures idle { is_poll change ≡ false → (q : ℕ) → polled_at self.old q ≡ false → polled_at self.new q ≡ false }
         ensures none { (q : ℕ) → read_at self.old q ≡ None → read_at self.new q ≡ None }
     {
         if let Some(read) = self.read(id) {
             let stage = stage_after(change, read.stage);
             put(&mut self.reads, id, read.request, stage);
             leave(&mut self.places, &read, stage);
-            self.upto = list(&mut self.listed, self.upto, id, read.request, stage);
         }
     }
 }
