@@ -1,27 +1,12 @@
 //! Demonstrations: files of given values, over memory.
 use crate::run::run;
+use crate::tests::Left;
 use std::alloc::Global;
 use std::test::Fail;
 use vx_base::{MemOpener, MemSink, MemSource};
 
 const ARRAYS: &str =
     "array 0 vortex.bool\narray 1 vortex.primitive\narray 2 vortex.struct\narray 3 vortex.varbin\n";
-
-// What a run left.
-#[derive(Drop)]
-struct Left {
-    status: u8,
-    out: Vec<u8>,
-    err: Vec<u8>,
-}
-
-impl Left {
-    fn is(&self, status: u8, out: &str, err: &str) -> bool {
-        self.status == status
-            && self.out.as_slice() == out.as_bytes()
-            && self.err.as_slice() == err.as_bytes()
-    }
-}
 
 // The words of a demonstration.
 fn words_of(alloc: Global, values: &[&str]) -> Result<Vec<String>, Fail> {

@@ -35,16 +35,17 @@ impl Failing {
     }
 }
 
-// What a run left.
+/// What a run left.
 #[derive(Drop)]
-struct Left {
-    status: u8,
-    out: Vec<u8>,
-    err: Vec<u8>,
+pub(crate) struct Left {
+    pub(crate) status: u8,
+    pub(crate) out: Vec<u8>,
+    pub(crate) err: Vec<u8>,
 }
 
 impl Left {
-    fn is(&self, status: u8, out: &str, err: &str) -> bool {
+    /// Whether a run left this.
+    pub(crate) fn is(&self, status: u8, out: &str, err: &str) -> bool {
         self.status == status
             && self.out.as_slice() == out.as_bytes()
             && self.err.as_slice() == err.as_bytes()
