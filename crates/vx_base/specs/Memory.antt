@@ -1,11 +1,11 @@
 -- The outside in memory: what contracts see of it, and what its calls answer.
-use Rattle.std.specs.Prelude.{◌≡◌, ℕ, ◌+◌, ◌==◌, min, Bool, true, false, ◌&&◌, List, [], ◌∷◌, ◌++◌, length, drop, find, bytes_eq, string_bytes, String, Vec, Option, Some, None, Result, Ok, Err, IfOk, OnOk, if◌then◌else◌}
+use Rattle.std.specs.Prelude.{◌≡◌, ℕ, ◌==◌, min, Bool, true, false, ◌&&◌, List, [], ◌∷◌, length, drop, find, bytes_eq, string_bytes, String, Vec, Option, Some, None, Result, Ok, Err, IfOk, if◌then◌else◌}
 use Rattle.std.specs.Global.{Global}
 use Rattle.std.specs.List.{list_any}
 use Rattle.std.specs.Option.{option_map, option_map_or}
 use Rattle.vx_base.specs.Asking.{Log}
 use Rattle.vx_base.specs.Buffer.{Buffer}
-use Rattle.vx_base.specs.Counts.{last_count, next_count}
+use Rattle.vx_base.specs.Counts.{next_count}
 use Rattle.vx_base.specs.Mischiefs.{is_well_behaved, fails_size, fails_clone, answers_of}
 use Rattle.vx_base.specs.Openers.{OpenerState, Returned}
 use Rattle.vx_base.specs.Readers.{ReaderState}

@@ -1,8 +1,8 @@
 //! The implementations of the outside, with ample memory, over memory and over real files.
 use crate::{
-    Alignment, ByteBuffer, FaultKind, FileOpener, MemOpener, MemReader, MemSink, MemSource,
-    Mischief, MischiefKind, Opener, ReadAtRequest, Reader, Sequence, Sink, Source, StdSink,
-    StdSource, Text, WithWindow, log_answers, write_flushed, write_pieces,
+    Alignment, ByteBuffer, FaultKind, FileOpener, FileReader, MemOpener, MemReader, MemSink,
+    MemSource, Mischief, MischiefKind, Opener, ReadAtRequest, Reader, Sequence, Sink, Source,
+    StdSink, StdSource, Text, WithWindow, log_answers, write_flushed, write_pieces,
 };
 use std::alloc::Global;
 use std::fs;
@@ -22,22 +22,23 @@ fn buffer(alloc: Global, bytes: &[u8]) -> Result<ByteBuffer, Fail> {
 }
 
 #[test]
-fn small_types_keep_what_they_get(rt: HostRuntime) -> Result<(), Fail> {
+fn buffers_are_cut_and_shared(rt: HostRuntime) -> Result<(), Fail> {
     let whole = buffer(rt.alloc(), b"vortex")?;
+    assert_eq!(rt; whole.len(), 6);
     let part = whole
         .slice(rt.alloc(), 1..4)?
         .aligned(Alignment::new(3).ok().ok_or("no alignment")?);
     assert_eq!(rt; part.share(rt.alloc())?.as_slice(), b"ort".as_slice());
     assert_eq!(rt; part.alignment().as_u64(), 8);
-    assert!(rt; Alignment::new(17).is_err());
+    Ok(())
+}
+
+#[test]
+fn small_types_keep_what_they_get(rt: HostRuntime) -> Result<(), Fail> {
     let mut numbers = Sequence::new(rt.alloc());
     numbers.push(4u8)?;
-    numbers.push(9)?;
-    assert_eq!(rt; numbers.len(), 2);
-    assert_eq!(rt;
-        Sequence::from_vec(numbers.into_vec()).as_slice(),
-        [4, 9].as_slice()
-    );
+    let numbers = Sequence::from_vec(numbers.into_vec());
+    assert_eq!(rt; numbers.as_slice(), [4].as_slice());
     assert_eq!(rt; Text::from_str(rt.alloc(), "name")?.as_str(), "name");
     assert_eq!(rt;
         format!(in rt.alloc(); "{}", FaultKind::ShortRead)?.as_str(),
@@ -141,36 +142,51 @@ fn an_opener_in_memory_finds_the_first_of_a_name(rt: HostRuntime) -> Result<(), 
     Ok(())
 }
 
+// A path of this process.
+fn path_of(rt: &HostRuntime) -> Result<String, Fail> {
+    Ok(format!(in rt.alloc(); "/tmp/vx_base_test_{}", std::process::id(rt.process()))?)
+}
+
+// How many bytes of some a new file takes, and whether it flushes them.
+fn write_real(rt: &HostRuntime, path: &str) -> Result<(Option<usize>, bool), Fail> {
+    let mut sink = StdSink::new(fs::create(rt, path)?);
+    let written = sink.write(rt.alloc(), b"vortex").ok();
+    Ok((written, sink.flush().is_ok()))
+}
+
+// How many bytes two reads of a file give.
+fn read_real(rt: &HostRuntime, path: &str) -> Result<(Option<usize>, Option<usize>), Fail> {
+    let mut source = StdSource::new(fs::open(rt, path)?);
+    let mut into = [0u8; 8];
+    let first = source.read(&mut into).ok();
+    Ok((first, source.read(&mut into).ok()))
+}
+
+// The first bytes that a clone answers to two ranges, of which the second ends past the file.
+fn ask_real(alloc: Global, reader: &mut FileReader) -> Result<Option<ByteBuffer>, Fail> {
+    let mut clone = reader.try_clone(alloc).ok().ok_or("not cloned")?;
+    let answers = clone.read_ranges(alloc, &[range(3, 3), range(4, 3)])?;
+    let mut all = answers.into_iter();
+    let first = all.next().ok_or("no answer")?;
+    let second = all.next().ok_or("no answer")?;
+    if second.result.is_ok() {
+        return Ok(None);
+    }
+    Ok(first.result.ok())
+}
+
 #[test]
 fn real_files_are_read_and_written(rt: HostRuntime) -> Result<(), Fail> {
-    let mut path = String::from_str(rt.alloc(), "/tmp/vx_base_test_")?;
-    path.push_str(format!(in rt.alloc(); "{}", std::process::id(rt.process()))?.as_str())?;
-    let mut sink = StdSink::new(fs::create(&rt, path.as_str())?);
-    assert_eq!(rt; sink.write(rt.alloc(), b"vortex").ok(), Some(6));
-    assert!(rt; sink.flush().is_ok());
-    drop(sink);
-    let mut source = StdSource::new(fs::open(&rt, path.as_str())?);
-    let mut into = [0u8; 8];
-    assert_eq!(rt; source.read(&mut into).ok(), Some(6));
-    assert_eq!(rt; source.read(&mut into).ok(), Some(0));
+    let path = path_of(&rt)?;
+    assert_eq!(rt; write_real(&rt, path.as_str())?, (Some(6), true));
+    assert_eq!(rt; read_real(&rt, path.as_str())?, (Some(6), Some(0)));
     let mut opener = FileOpener::new(rt);
     let mut reader = opener
         .open_named(rt.alloc(), path.as_str())
         .ok()
         .ok_or("not opened")?;
-    assert_eq!(rt; reader.size().ok(), Some(6));
-    let mut clone = reader.try_clone(rt.alloc()).ok().ok_or("not cloned")?;
-    let answers = clone.read_ranges(rt.alloc(), &[range(3, 3), range(4, 3)])?;
-    assert_eq!(rt;
-        answers[0]
-            .result
-            .as_ref()
-            .ok()
-            .ok_or("no bytes")?
-            .as_slice(),
-        b"tex".as_slice()
-    );
-    assert!(rt; answers[1].result.is_err());
+    let bytes = ask_real(rt.alloc(), &mut reader)?.ok_or("no bytes")?;
+    assert_eq!(rt; bytes.as_slice(), b"tex".as_slice());
     opener.take_back(rt.alloc(), path.as_str(), reader)?;
     fs::remove_file(&rt, path.as_str())?;
     assert!(rt; opener.open_named(rt.alloc(), path.as_str()).is_err());

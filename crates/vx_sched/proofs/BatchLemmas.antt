@@ -8,7 +8,7 @@ use Rattle.std.specs.List.{AllByRecursion, list_any}
 use Rattle.std.specs.BTreeMap.{is_at}
 use Rattle.std.specs.BTreeSet.{BTreeSet, contains}
 use Rattle.std.specs.Ordering.{nat_cmp}
-use Rattle.vx_base.specs.declared.segment.CoalesceConfig.{CoalesceConfig}
+use Rattle.vx_sched.specs.declared.window.CoalesceConfig.{CoalesceConfig}
 use Rattle.vx_sched.specs.Span.{Span, end_of, AllWithin}
 use Rattle.vx_sched.specs.Reads.{Reads, read_at, waiting_at, if_waiting, is_waiting, is_polled}
 use Rattle.vx_sched.specs.Merging.{Merges, GathersIn, is_listed, is_in_order, is_in_order_after, is_before, first_offset, first_number, greatest_end}

@@ -10,7 +10,7 @@ use Rattle.std.specs.List.Sorted.{IsStrictlySortedBy}
 use Rattle.std.specs.Map.{keys_of}
 use Rattle.std.specs.BTreeMap.{is_at}
 use Rattle.std.specs.Ordering.{nat_cmp}
-use Rattle.vx_base.specs.declared.segment.CoalesceConfig.{CoalesceConfig}
+use Rattle.vx_sched.specs.declared.window.CoalesceConfig.{CoalesceConfig}
 use Rattle.vx_sched.specs.Span.{Span}
 use Rattle.vx_sched.specs.Reads.{Reads, read_at, waiting_at, if_waiting, after, with_stage, change_found, changed, all_changed}
 use Rattle.vx_sched.specs.Merging.{is_listed, first_number}

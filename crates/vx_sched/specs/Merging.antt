@@ -3,7 +3,7 @@ use Rattle.std.specs.Prelude.{◌≡◌, ℕ, ◌+◌, ◌-◌, ◌^◌, ◌<◌
 use Rattle.std.specs.List.{list_any, AllByRecursion}
 use Rattle.vx_base.specs.Aligned.{align_down}
 use Rattle.vx_base.specs.Counts.{last_count}
-use Rattle.vx_base.specs.declared.segment.CoalesceConfig.{CoalesceConfig}
+use Rattle.vx_sched.specs.declared.window.CoalesceConfig.{CoalesceConfig}
 use Rattle.vx_sched.specs.Span.{Span, end_of}
 use Rattle.vx_sched.specs.declared.request.ReadRequest.{ReadRequest}
 

@@ -4,7 +4,7 @@ use Rattle.std.specs.List.{list_all}
 use Rattle.std.specs.Map.{values_of}
 use Rattle.std.specs.BTreeMap.{insert_entry}
 use Rattle.std.specs.Ordering.{nat_cmp}
-use Rattle.vx_base.specs.declared.segment.CoalesceConfig.{CoalesceConfig}
+use Rattle.vx_sched.specs.declared.window.CoalesceConfig.{CoalesceConfig}
 use Rattle.vx_sched.specs.Span.{Span, end_of}
 use Rattle.vx_sched.specs.Reads.{Reads, read_at, waiting_at, is_polled, changed, all_changed}
 use Rattle.vx_sched.specs.Merging.{Merges, span_of, first_number, is_in_order}

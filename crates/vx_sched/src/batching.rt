@@ -11,7 +11,8 @@ use crate::table::Table;
 use crate::{CoalescedRequest, ReadRequest};
 use std::alloc::{AllocError, Global};
 use std::collections::BTreeSet;
-use vx_base::{Alignment, CoalesceConfig};
+use crate::CoalesceConfig;
+use vx_base::Alignment;
 
 /// The span of one read alone.
 pub fn lone(alloc: Global, first: ReadRequest) -> Result<CoalescedRequest, AllocError>

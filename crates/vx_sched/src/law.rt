@@ -1,6 +1,6 @@
 //! The scheduling law.
 ghost use Rattle.std.specs.Prelude.{◌≡◌, ℕ, ◌+◌, ◌-◌, ◌*◌, ◌^◌, ◌<◌, ◌≤◌, List, length, Some, Option};
-ghost use Rattle.vx_base.specs.declared.segment.CoalesceConfig.{CoalesceConfig};
+ghost use Rattle.vx_sched.specs.declared.window.CoalesceConfig.{CoalesceConfig};
 ghost use Rattle.vx_sched.specs.Span.{Span};
 ghost use Rattle.vx_sched.specs.Merging.{Merges};
 ghost use Rattle.vx_sched.specs.Scheduling.{IsLegal};

@@ -11,16 +11,13 @@ mod flying;
 mod gather;
 mod io_request;
 mod law;
-#[cfg(test)]
-mod merging_tests;
 mod metrics;
 mod read;
 mod request;
 mod span;
 mod state;
 mod table;
-#[cfg(test)]
-mod tests;
+mod window;
 
 pub use asking::{ask, ask_size};
 pub use counts::Counts;
@@ -32,3 +29,4 @@ pub use metrics::RequestMetrics;
 pub use request::ReadRequest;
 pub use span::{CoalescedRequest, RangeError};
 pub use state::State;
+pub use window::CoalesceConfig;

@@ -15,7 +15,8 @@ use crate::{CoalescedRequest, Counts, ReadEvent, ReadRequest};
 use std::alloc::{AllocError, Global};
 use std::collections::BTreeSet;
 use std::marker::Model;
-use vx_base::{Alignment, CoalesceConfig};
+use crate::CoalesceConfig;
+use vx_base::Alignment;
 
 /// Reads that are registered, polled, in flight and resolved, and how they are gathered.
 #[derive(Drop)]

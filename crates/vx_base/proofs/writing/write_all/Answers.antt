@@ -1,4 +1,3 @@
-use Rattle.std.proofs.Common.{◌∙◌, arith}
 use Rattle.vx_base.proofs.TakingLemmas.{write-turn, same_sink-then, faultless-then}
 use Rattle.vx_base.proofs.writing.write_all.Goals as goal
 

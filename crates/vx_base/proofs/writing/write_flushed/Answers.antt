@@ -1,4 +1,4 @@
-use Rattle.std.proofs.Common.{subst, ◌++◌, []}
+use Rattle.std.proofs.Common.{subst, []}
 use Rattle.std.proofs.lemmas.List.{append-nil}
 use Rattle.vx_base.specs.Streams.{WritesAll}
 use Rattle.vx_base.proofs.TakingLemmas.{written-then}

@@ -1,4 +1,4 @@
-use Rattle.std.proofs.Common.{◌≡◌, ◌∙◌, arith, rules, Err}
+use Rattle.std.proofs.Common.{◌≡◌, arith, rules, Err}
 use Rattle.vx_base.proofs.TakingLemmas.{pieces-taken, pieces-prefix, pieces-refused, pieces-written, same_sink-then, faultless-then}
 use Rattle.vx_base.proofs.writing.write_pieces.Goals as goal
 

@@ -1,4 +1,4 @@
-use Rattle.std.proofs.Common.{◌≡◌, List, ℕ, Option, drop}
+use Rattle.std.proofs.Common.{List, ℕ, Option, drop}
 use Rattle.std.specs.List.{flat_map}
 use Rattle.vx_base.specs.Streams.{Took, TookPrefix, SameSink}
 use Rattle.vx_base.proofs.TakingLemmas.{Faultless}

@@ -1,6 +1,5 @@
 use Rattle.std.proofs.Common.{arith, length}
 use Rattle.std.proofs.lemmas.Grind.{common_steps}
-use Rattle.vx_base.specs.Mischiefs.{answers_of}
 use Rattle.vx_base.proofs.MemoryLemmas.{well_behaved-faulted}
 use Rattle.vx_base.proofs.mem_reader.MemReader.answers.Goals as goal
 
