@@ -119,13 +119,6 @@ pieces-done f xs i start now le before = before now (subst (λ x. Took x now now
 
 -- ---- calls of a sink, one behind the other
 
-pub same_sink-then : (a b c : SinkState) → SameSink a b → SameSink b c → SameSink a c
-same_sink-then a b c h k = record {
-  never_fails = k.never_fails ∙ h.never_fails;
-  never_falls = omega (arith, h.never_falls, k.never_falls);
-  memory_never_falls = omega (arith, h.memory_never_falls, k.memory_never_falls);
-}
-
 -- a sink that never fails had no fault
 abbrev pub Faultless : SinkState → SinkState → Type 0
 Faultless before now = before.never_fails ≡ true → now.faults ≡ before.faults

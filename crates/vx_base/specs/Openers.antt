@@ -1,6 +1,7 @@
 -- What an opener tells, and what its calls answer and leave.
 use Rattle.std.specs.Prelude.{◌≡◌, ℕ, ◌+◌, ◌≤◌, min, ◌++◌, ◌∷◌, ◌⊎◌, Bool, true, List, [], Option, Some, Result, Err, IfOk, OnOk, OnErr}
 use Rattle.std.specs.Option.{option_map}
+use Rattle.std.proofs.Common.{◌∙◌, refl, arith}
 use Rattle.vx_base.specs.Asking.{Log}
 use Rattle.vx_base.specs.Counts.{Rises, last_count}
 use Rattle.vx_base.specs.Readers.{ReaderState}
@@ -32,6 +33,18 @@ pub record SameOpener (before now : OpenerState) : Type 0 where
   pub never_falls : before.faults ≤ now.faults
   pub read_never_falls : before.read_faults ≤ now.read_faults
   pub memory_never_falls : before.memory_faults ≤ now.memory_faults
+
+pub same_opener : (a : OpenerState) → SameOpener a a
+same_opener a = record { file = refl; never_fails = refl; never_falls = omega arith; read_never_falls = omega arith; memory_never_falls = omega arith }
+
+pub same_opener-then : (a b c : OpenerState) → SameOpener a b → SameOpener b c → SameOpener a c
+same_opener-then a b c h k = record {
+  file = k.file ∙ h.file;
+  never_fails = k.never_fails ∙ h.never_fails;
+  never_falls = omega (arith, h.never_falls, k.never_falls);
+  read_never_falls = omega (arith, h.read_never_falls, k.read_never_falls);
+  memory_never_falls = omega (arith, h.memory_never_falls, k.memory_never_falls);
+}
 
 -- the name was asked for, once
 abbrev pub AsksFor : List ℕ → OpenerState → OpenerState → Type 0

@@ -2,6 +2,7 @@
 use Rattle.std.specs.Prelude.{◌≡◌, ℕ, ◌≤◌, ◌++◌, Bool, true, List, [], length, All, Option, Some, IsSome, Result, Err, IsOk, IfOk, OnErr, Vec}
 use Rattle.std.specs.Global.{Global}
 use Rattle.std.specs.Option.{option_map}
+use Rattle.std.proofs.Common.{◌∙◌, refl, arith}
 use Rattle.vx_base.specs.Asking.{Log, logged, faulted, GrewOrStayed, IsInside, IsTrueTo}
 use Rattle.vx_base.specs.Buffer.{Buffer}
 use Rattle.vx_base.specs.Counts.{Rises}
@@ -33,6 +34,15 @@ pub record SameReader (before now : ReaderState) : Type 0 where
   pub concurrency : now.concurrency ≡ before.concurrency
   pub never_fails : now.never_fails ≡ before.never_fails
   pub never_falls : before.faults ≤ now.faults
+
+pub same_reader : (a : ReaderState) → SameReader a a
+same_reader a = record { bytes = refl; uri = refl; distance = refl; max_read_size = refl; concurrency = refl; never_fails = refl; never_falls = omega arith }
+
+pub same_reader-then : (a b c : ReaderState) → SameReader a b → SameReader b c → SameReader a c
+same_reader-then a b c h k = record {
+  bytes = k.bytes ∙ h.bytes; uri = k.uri ∙ h.uri; distance = k.distance ∙ h.distance; max_read_size = k.max_read_size ∙ h.max_read_size;
+  concurrency = k.concurrency ∙ h.concurrency; never_fails = k.never_fails ∙ h.never_fails; never_falls = omega (arith, h.never_falls, k.never_falls);
+}
 
 -- the number of bytes, or a fault
 pub record SizeCause (before now : ReaderState) (size : Result ℕ Failed) : Type 0 where

@@ -1,6 +1,7 @@
 -- What streams of bytes tell, and what their calls answer and leave.
 use Rattle.std.specs.Prelude.{◌≡◌, ℕ, ◌<◌, ◌≤◌, ◌++◌, Bool, true, List, [], length, take, drop, Option, Some, Result, Ok, Err, IsOk, IfOk, OnOk, OnErr}
 use Rattle.std.specs.Option.{option_map}
+use Rattle.std.proofs.Common.{◌∙◌, arith}
 use Rattle.vx_base.specs.Counts.{Rises}
 use Rattle.vx_base.specs.declared.fault.Failed.{Failed}
 use Rattle.vx_base.specs.declared.fault.SinkError.{SinkError}
@@ -17,6 +18,9 @@ pub record SourceState : Type 0 where
 pub record SameSource (before now : SourceState) : Type 0 where
   pub never_fails : now.never_fails ≡ before.never_fails
   pub never_falls : before.faults ≤ now.faults
+
+pub same_source-then : (a b c : SourceState) → SameSource a b → SameSource b c → SameSource a c
+same_source-then a b c h k = record { never_fails = k.never_fails ∙ h.never_fails; never_falls = omega (arith, h.never_falls, k.never_falls) }
 
 -- the next bytes stand at the front of the buffer, and none for a buffer that is not empty is the end
 pub record ReadCause (into into_now : List ℕ) (before now : SourceState) (count : Result ℕ Failed) : Type 0 where
@@ -42,6 +46,13 @@ pub record SameSink (before now : SinkState) : Type 0 where
   pub never_fails : now.never_fails ≡ before.never_fails
   pub never_falls : before.faults ≤ now.faults
   pub memory_never_falls : before.memory_faults ≤ now.memory_faults
+
+pub same_sink-then : (a b c : SinkState) → SameSink a b → SameSink b c → SameSink a c
+same_sink-then a b c h k = record {
+  never_fails = k.never_fails ∙ h.never_fails;
+  never_falls = omega (arith, h.never_falls, k.never_falls);
+  memory_never_falls = omega (arith, h.memory_never_falls, k.memory_never_falls);
+}
 
 -- the sink took these bytes
 abbrev pub Took : List ℕ → Option (List ℕ) → Option (List ℕ) → Type 0

@@ -1,4 +1,5 @@
-use Rattle.vx_base.proofs.TakingLemmas.{write-turn, same_sink-then, faultless-then}
+use Rattle.vx_base.specs.Streams.{same_sink-then}
+use Rattle.vx_base.proofs.TakingLemmas.{write-turn, faultless-then}
 use Rattle.vx_base.proofs.writing.write_all.Goals as goal
 
 pub loop-rest-preserved : goal.loop-rest-preserved

@@ -1,5 +1,6 @@
 use Rattle.std.proofs.Common.{◌≡◌, arith, rules, Err}
-use Rattle.vx_base.proofs.TakingLemmas.{pieces-taken, pieces-prefix, pieces-refused, pieces-written, same_sink-then, faultless-then}
+use Rattle.vx_base.specs.Streams.{same_sink-then}
+use Rattle.vx_base.proofs.TakingLemmas.{pieces-taken, pieces-prefix, pieces-refused, pieces-written, faultless-then}
 use Rattle.vx_base.proofs.writing.write_pieces.Goals as goal
 
 pub returns-in_err-write_all-clause-written : goal.returns-in_err-write_all-clause-written
