@@ -40,8 +40,13 @@ same_reader a = record { bytes = refl; uri = refl; distance = refl; max_read_siz
 
 pub same_reader-then : (a b c : ReaderState) → SameReader a b → SameReader b c → SameReader a c
 same_reader-then a b c h k = record {
-  bytes = k.bytes ∙ h.bytes; uri = k.uri ∙ h.uri; distance = k.distance ∙ h.distance; max_read_size = k.max_read_size ∙ h.max_read_size;
-  concurrency = k.concurrency ∙ h.concurrency; never_fails = k.never_fails ∙ h.never_fails; never_falls = omega (arith, h.never_falls, k.never_falls);
+  bytes = k.bytes ∙ h.bytes;
+  uri = k.uri ∙ h.uri;
+  distance = k.distance ∙ h.distance;
+  max_read_size = k.max_read_size ∙ h.max_read_size;
+  concurrency = k.concurrency ∙ h.concurrency;
+  never_fails = k.never_fails ∙ h.never_fails;
+  never_falls = omega (arith, h.never_falls, k.never_falls);
 }
 
 -- the number of bytes, or a fault
