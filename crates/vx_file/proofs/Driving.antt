@@ -1,6 +1,6 @@
 -- Turns of a drive, and what a reader was asked in them.
 use Rattle.std.proofs.Common.{◌≡◌, ℕ, zero, suc, ◌+◌, ◌-◌, ◌<◌, ◌≤◌, true, false, cond, List, [], ◌∷◌, ◌++◌, length, map, Option, Some, None, Result, Ok, Err, refl, sym, ap, subst, ◌∙◌, ◌⊎◌, inl, arith, append_assoc}
-use Rattle.std.specs.Prelude.{slice_get, slice_set}
+use Rattle.std.specs.Prelude.{slice_get, slice_set, OnErr}
 use Rattle.std.specs.Option.{option_map, option_and_then}
 use Rattle.std.proofs.lemmas.Option.{slice_get_within, get_or_from_slice_get}
 use Rattle.std.proofs.lemmas.List.Elements.{All-get_or}
@@ -198,3 +198,8 @@ so_far-stops w past start now next spans k h f =
 -- nothing more was asked
 pub so_far-stops_there : (w : World) (past : List Moment) (start now : ReaderState) (spans : List Span) (k : Kept) → SoFar w past start now spans k → (gained : Log) × StopsDrive w past gained × Grew gained start.log now.log
 so_far-stops_there w past start now spans k h = so_far-stops w past start now now spans k h ([], inl refl, (asks-nothing now).grew)
+
+-- what holds whatever the result is holds after an error
+pub on_err : {X E : Type 0} (r : Result X E) (P : Type 0) → P → OnErr r P
+on_err (Ok x) P h = tt
+on_err (Err e) P h = h

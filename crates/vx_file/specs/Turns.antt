@@ -104,7 +104,8 @@ StopsStep w past _ gained = gained ≡ []
 
 -- some steps of a script were answered, and the next one stopped for want of memory
 pub record Stops (w : World) (script : List Step) (gained : Log) : Type 0 where
-  pub done rest : List Step
+  pub done : List Step
+  pub rest : List Step
   pub split : script ≡ done ++ rest
   pub replies : List Reply
   pub fits : Fits w [] done replies

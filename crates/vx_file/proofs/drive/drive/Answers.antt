@@ -1,6 +1,6 @@
 use Rattle.std.proofs.Common.{◌∙◌}
 use Rattle.vx_base.specs.Readers.{same_reader-then}
-use Rattle.vx_file.proofs.Driving.{so_far-goes_on, so_far-idle, so_far-stops, so_far-stops_there, tail-kept}
+use Rattle.vx_file.proofs.Driving.{on_err, so_far-goes_on, so_far-idle, so_far-stops, so_far-stops_there, tail-kept}
 use Rattle.vx_file.proofs.drive.drive.Goals as goal
 
 pub loop-spans-preserved : goal.loop-spans-preserved
@@ -47,3 +47,19 @@ returns-in_err-push-clause-steady g c = λ w past never told inside stands.
     let invariant = c.loop-spans.invariant in
     let h = invariant.so_far w past told stands in
     c.in_ok-span.ensures.steady w _ (invariant.same.never_fails ∙ never) (invariant.same.bytes ∙ told) inside h.driving.stands ∙ invariant.steady w past never told inside stands
+
+pub returns-in_err-span-clause-stopped : goal.returns-in_err-span-clause-stopped
+returns-in_err-span-clause-stopped g c = on_err c.from_residual.result _ (λ w past told stands.
+    let state = g.R.Reader.state in
+    let invariant = c.loop-spans.invariant in
+    let h = invariant.so_far w past told stands in
+    so_far-stops w past (state c.args.reader.now) (state c.loop-spans.reader) (state c.read_next.new.reader) c.loop-spans.spans c.loop-spans.session h (c.in_err-span.ensures.stopped w _ (invariant.same.bytes ∙ told) h.driving.stands))
+
+pub returns-in_err-push-clause-stopped : goal.returns-in_err-push-clause-stopped
+returns-in_err-push-clause-stopped g c = on_err c.from_residual-in_err-push.result _ (λ w past told stands.
+    let state = g.R.Reader.state in
+    let turned = rw c.in-Some.is at c.in_ok-span.ensures.turned in
+    let invariant = c.loop-spans.invariant in
+    let h = invariant.so_far w past told stands in
+    so_far-stops_there w past (state c.args.reader.now) (state c.read_next.new.reader) _ c.read_next.new.session
+    (so_far-goes_on w past _ _ _ c.loop-spans.spans c.in-Some.span c.loop-spans.session c.read_next.new.session h (turned w _ (invariant.same.bytes ∙ told) h.driving.stands)))

@@ -1,4 +1,4 @@
-use Rattle.vx_file.proofs.Driving.{turned-is, stopped-is, due-inside, counts-down, keeps-tail}
+use Rattle.vx_file.proofs.Driving.{on_err, turned-is, stopped-is, due-inside, counts-down, keeps-tail}
 use Rattle.vx_file.proofs.drive.read_next.Goals as goal
 
 pub returns-clause-turned : goal.returns-clause-turned
@@ -19,3 +19,7 @@ returns-clause-steady g c = λ w past never told inside stands.
 pub returns-in_err-read-clause-steady : goal.returns-in_err-read-clause-steady
 returns-in_err-read-clause-steady g c = λ w past never told inside stands.
     c.read_range.ensures.steady w.file never told (due-inside w past c.args.session.now c.in-Some.number c.in-Some.spec inside stands c.in-Some.ensures.next (λ r got. (c.in-Some.ensures.found r got).0))
+
+pub returns-in_err-read-clause-stopped : goal.returns-in_err-read-clause-stopped
+returns-in_err-read-clause-stopped g c = on_err c.from_residual-in_err-read.result _ (λ w past told stands.
+    stopped-is w past c.args.session.now c.in-Some.number c.in-Some.spec _ _ stands c.in-Some.ensures.next (λ r got. (c.in-Some.ensures.found r got).0) c.in_err-read.ensures.memory)

@@ -11,7 +11,7 @@ returns-in-Ok-2-clause-steady g c = λ file never told.
     let clauses = c.in-Ok.ensures in
     c.read_range.ensures.steady file (clauses.same.never_fails ∙ never) (clauses.same.bytes ∙ told) (omega (arith, clauses.cause.told file told, c.saturating_sub-start.ensures)) ∙ (clauses.cause.sound never).1
 
-pub returns-in-Err-clause-steady : goal.returns-in-Err-clause-steady
-returns-in-Err-clause-steady g c = λ file never told.
+pub returns-in-Err-2-clause-steady : goal.returns-in-Err-2-clause-steady
+returns-in-Err-2-clause-steady g c = λ file never told.
     let clauses = c.in-Ok.ensures in
     c.read_range.ensures.steady file (clauses.same.never_fails ∙ never) (clauses.same.bytes ∙ told) (omega (arith, clauses.cause.told file told, c.saturating_sub-start.ensures)) ∙ (clauses.cause.sound never).1

@@ -1,8 +1,8 @@
-use Rattle.std.proofs.Common.{◌∙◌, arith}
-use Rattle.vx_base.specs.Readers.{same_reader-then}
+use Rattle.std.proofs.Common.{◌∙◌, refl, arith}
+use Rattle.vx_base.specs.Readers.{same_reader, same_reader-then}
 use Rattle.vx_file.specs.declared.step.Step.TheVariants.{Register}
-use Rattle.vx_file.proofs.Answering.{answering-turn, answering-done, answering-stops, answering-stops_there}
-use Rattle.vx_file.proofs.Driving.{tail-kept}
+use Rattle.vx_file.proofs.Answering.{answering-starts, answering-turn, answering-done, answering-stops, answering-stops_there}
+use Rattle.vx_file.proofs.Driving.{on_err, tail-kept}
 use Rattle.vx_file.proofs.steps.answer_steps.Goals as goal
 
 pub loop-step-preserved : goal.loop-step-preserved
@@ -39,3 +39,28 @@ pub returns-in_err-push-clause-steady : goal.returns-in_err-push-clause-steady
 returns-in_err-push-clause-steady g c = λ w never told table inside stands.
     let invariant = c.loop-step.invariant in
     c.in_ok-reply.ensures.steady w _ (invariant.same.never_fails ∙ never) (invariant.same.bytes ∙ told) inside (invariant.answering w told table stands).stands ∙ invariant.steady w never told table inside stands
+
+pub loop-step-init : goal.loop-step-init
+loop-step-init g c =
+    let state = g.R.Reader.state in
+    record {
+      answering = λ w told table stands. rw c.new-replies.ensures (answering-starts w c.args.script.now (state c.args.reader.now) c.args.session.now stands);
+      steady = λ w never told table inside stands. refl;
+      tail = record { start = refl; tail = refl };
+      same = same_reader (state c.args.reader.now);
+    }
+
+pub returns-in_err-reply-clause-stopped : goal.returns-in_err-reply-clause-stopped
+returns-in_err-reply-clause-stopped g c = on_err c.from_residual.result _ (λ w told table stands.
+    let invariant = c.loop-step.invariant in
+    let state = g.R.Reader.state in
+    let h = invariant.answering w told table stands in
+    answering-stops w c.args.script.now _ _ (state c.args.reader.now) (state c.loop-step.reader) (state c.answer_step.new.reader) c.loop-step.replies c.loop-step.session h (c.in_err-reply.ensures.stopped w h.past (invariant.same.bytes ∙ told) table h.stands))
+
+pub returns-in_err-push-clause-stopped : goal.returns-in_err-push-clause-stopped
+returns-in_err-push-clause-stopped g c = on_err c.from_residual-in_err-push.result _ (λ w told table stands.
+    let state = g.R.Reader.state in
+    let invariant = c.loop-step.invariant in
+    answering-stops_there w c.args.script.now _ (state c.args.reader.now) (state c.answer_step.new.reader) _ c.answer_step.new.session
+    (answering-turn w c.args.script.now c.loop-step.step-index (Register 0) _ _ _ c.loop-step.replies c.in_ok-reply.reply c.loop-step.session c.answer_step.new.session (omega arith)
+    (invariant.answering w told table stands) (λ past. c.in_ok-reply.ensures.replied w past (invariant.same.bytes ∙ told) table)))
