@@ -8,7 +8,7 @@ use crate::table::{Locator, Tables};
 use crate::{Footer, PType, SegmentSpecs, SerializeError, TextList};
 use std::alloc::{AllocError, Global};
 use vx_base::{Alignment, ByteBuffer, SegmentId};
-use vx_tables::TableWriter;
+use vx_tables::{TableError, TableWriter};
 
 /// The alignment exponent that the postscript says of each table. It is a mere claim: the tables
 /// lie one behind the other, without padding.
@@ -130,8 +130,8 @@ fn locator_table(alloc: Global, locator: &Locator) -> Result<TableWriter, AllocE
     Ok(table)
 }
 
-/// The root of the postscript. It has the same length whatever the places are, so only memory
-/// refuses.
+/// The root of the postscript. It has the same length whatever the places are, so it is never too
+/// long, and only memory refuses.
 #[tactic(auto, unfolding(crate::specs::Serialized::places_bytes))]
 fn postscript_table(alloc: Global, places: &Tables) -> Result<ByteBuffer, AllocError>
     ensures value { IfOk result (λ b. b.bytes ≡ places_bytes places.now) }
@@ -144,7 +144,8 @@ fn postscript_table(alloc: Global, places: &Tables) -> Result<ByteBuffer, AllocE
     table.push_table(alloc, 3, locator_table(alloc, &places.footer)?)?;
     match table.finish(alloc) {
         Ok(buffer) => Ok(buffer),
-        Err(_) => Err(AllocError),
+        Err(TableError::OutOfMemory) => Err(AllocError),
+        Err(TableError::TableTooLong) => unreachable!(),
     }
 }
 

@@ -1,6 +1,6 @@
 -- A file of one column: its length, its footer and its rows.
 use Rattle.std.proofs.Common.{◌≡◌, ℕ, zero, suc, ◌+◌, ◌*◌, ◌<◌, ◌≤◌, ◌^◌, Bool, true, List, [], ◌∷◌, ◌++◌, length, take, refl, sym, ap, subst, ◌∙◌, arith, append_assoc, length-append, le-leb, codes, IsAscii}
-use Rattle.std.specs.Prelude.{ℤ, Some, Ok, slice_get, FitsSigned, nat_le, nat_lt, ◌&&◌, false}
+use Rattle.std.specs.Prelude.{ℤ, Some, Ok, Err, slice_get, FitsSigned, nat_le, nat_lt, ◌&&◌, false}
 use Rattle.std.specs.Int.{w16, w32, to_le_bytes, from_le_bytes, cast_unsigned, cast_signed}
 use Rattle.std.specs.List.{flat_map}
 use Rattle.std.specs.Str.{is_utf8}
@@ -9,7 +9,8 @@ use Rattle.std.proofs.lemmas.Str.Ascii.{IsAscii-nil}
 use Rattle.std.proofs.lemmas.Bool.Decides.{nat_tests}
 use Rattle.vx_base.specs.Buffer.{bytes_at}
 use Rattle.vx_footer.specs.declared.footer.Footer.{Footer}
-use Rattle.vx_footer.specs.Serialized.{serialized, ptype_bytes, rows_bytes, ids_bytes, places_bytes, dtype_bytes, layout_bytes, footer_bytes, postscript_bytes, end_marker}
+use Rattle.vx_footer.specs.declared.serialize_error.SerializeError.{SerializeError}
+use Rattle.vx_footer.specs.Serialized.{serialize_checks, segment_of, parts, serialized, ptype_bytes, rows_bytes, ids_bytes, places_bytes, dtype_bytes, layout_bytes, footer_bytes, postscript_bytes, end_marker}
 use Rattle.vx_footer.specs.Writable.{IsWritable}
 use Rattle.vx_tables.specs.Block.{segment}
 use Rattle.vx_footer.specs.Opening.{least_read, vx_grammar}
@@ -36,6 +37,29 @@ footer-length count = refl
 postscript-length : (at count : ℕ) → length (postscript_bytes at (footer_of count)) ≡ 113
 unfolding places_bytes
 postscript-length at count = refl
+
+below : (n m : ℕ) → n < m → nat_lt n m ≡ true
+below n m h = grind (arith, nat_tests)
+
+segment-short : (bytes : List ℕ) → length bytes < 2 ^ 32 → segment_of bytes ≡ Ok bytes
+segment-short bytes h = rw (below (length bytes) (2 ^ 32) h) refl
+
+-- short tables that end before the last offset pass
+pass : (at : ℕ) (f : Footer) → length (dtype_bytes f) < 2 ^ 32 → length (layout_bytes f) < 2 ^ 32 → length (footer_bytes f) < 2 ^ 32
+    → at + length (dtype_bytes f) + length (layout_bytes f) + length (footer_bytes f) < 2 ^ 64 → serialize_checks at f ≡ Ok (parts at f)
+unfolding serialize_checks
+pass at f d l t ends = rw (segment-short (dtype_bytes f) d, segment-short (layout_bytes f) l, segment-short (footer_bytes f) t, below _ _ ends) refl
+
+-- the tables of a column are not refused
+pub not-refused : (at count : ℕ) (f : Footer) (e : SerializeError) → at < 2 ^ 33 → f ≡ footer_of count → serialize_checks at f ≡ Err e → ⊥
+not-refused at count f e low is refused =
+    let ok = pass at (footer_of count) (omega (arith, dtype-length count)) (omega (arith, layout-length count)) (omega (arith, footer-length count))
+    (omega (arith, dtype-length count, layout-length count, footer-length count)) in
+    let err : serialize_checks at (footer_of count) ≡ Err e = ap (serialize_checks at) (sym is) ∙ refused in
+    contradiction (sym ok ∙ err)
+  where
+    contradiction : {A E : Type 0} {x : A} {e : E} → Ok x ≡ Err e → ⊥
+    contradiction h = cc
 
 tables-length : (at count : ℕ) → length (serialized at (footer_of count)) ≡ 423
 tables-length at count =

@@ -1,6 +1,6 @@
 //! Why a file is not written.
 
-use std::alloc::{AllocError, AllocFailed};
+use std::alloc::AllocError;
 use thiserror::Error;
 
 /// Why a file is not written, or not whole.
@@ -13,7 +13,7 @@ pub enum WriteError {
     #[error("WriteFault")]
     WriteFault,
     /// Memory ran out. A prefix of the file was written.
-    #[error("OutOfMemory")]
+    #[error("out of memory")]
     OutOfMemory,
 }
 
@@ -24,17 +24,6 @@ impl From<AllocError> for WriteError {
     ghost from_gives = { λ _ e. e ≡ OutOfMemory };
 
     fn from(_error: AllocError) -> WriteError {
-        WriteError::OutOfMemory
-    }
-}
-
-impl<T: Drop> From<AllocFailed<T>> for WriteError {
-    ghost use Rattle.std.specs.Prelude.{◌≡◌};
-    ghost use Rattle.vx_write.specs.declared.write_error.WriteError.TheVariants.{OutOfMemory};
-
-    ghost from_gives = { λ _ e. e ≡ OutOfMemory };
-
-    fn from(_error: AllocFailed<T>) -> WriteError {
         WriteError::OutOfMemory
     }
 }

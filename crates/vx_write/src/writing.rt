@@ -3,13 +3,16 @@ ghost use Rattle.std.specs.Prelude.{◌≡◌, ◌≤◌, ◌<◌, ◌^◌, ◌+
 ghost use Rattle.vx_write.specs.Column.{column_size as size_of_column, footer_of as footer_of_count, known_ids, written, column_bytes, head, AreI32};
 ghost use Rattle.vx_write.specs.Writing.{Writes, error_of_sink};
 ghost use Rattle.vx_write.specs.declared.write_error.WriteError.TheVariants as errors;
+ghost use Rattle.vx_base.specs.Streams.{SameSink};
 ghost use Rattle.vx_footer.specs.Serialized.{serialized, joined};
 
 use crate::WriteError;
 use crate::column::{column_size, push_column};
 use std::alloc::{AllocError, Global};
 use vx_base::{Alignment, ByteBuffer, SegmentId, SegmentSpec, Sink, SinkError, write_flushed};
-use vx_footer::{Footer, PType, SegmentSpecs, TextList, written_footer_is_read};
+use vx_footer::{
+    Footer, PType, SegmentSpecs, SerializeError, TextList, written_footer_is_read,
+};
 
 /// The magic, and zeros up to the segment.
 const HEAD: &[u8] = b"VTXF\0\0\0\0";
@@ -65,12 +68,20 @@ fn footer_of(alloc: Global, count: u64, size: u32) -> Result<Footer, AllocError>
 }
 
 /// What follows the segment of `size` bytes. These tables are short, so only memory refuses.
-fn tables_of(alloc: Global, footer: &Footer, size: u32) -> Result<Vec<ByteBuffer>, AllocError>
+fn tables_of(
+    alloc: Global,
+    footer: &Footer,
+    count: usize,
+    size: u32,
+) -> Result<Vec<ByteBuffer>, AllocError>
+    requires { footer.now ≡ footer_of_count count }
     ensures { IfOk result (λ buffers. joined buffers.items ≡ serialized (8 + size) footer.now) }
 {
     match footer.serialize(alloc, SEGMENT_OFFSET + u64::from(size)) {
         Ok(buffers) => Ok(buffers),
-        Err(_) => Err(AllocError),
+        Err(SerializeError::OutOfMemory) => Err(AllocError),
+        Err(SerializeError::SegmentTooLong) => unreachable!(),
+        Err(SerializeError::OffsetOverflow) => unreachable!(),
     }
 }
 
@@ -100,7 +111,7 @@ fn file_bytes(
     let mut bytes = Vec::new(alloc);
     bytes.extend_from_slice(HEAD)?;
     push_column(&mut bytes, values)?;
-    let tables = tables_of(alloc, footer, size)?;
+    let tables = tables_of(alloc, footer, values.len(), size)?;
     push_buffers(&mut bytes, tables.as_slice())?;
     Ok(bytes)
 }
@@ -117,11 +128,10 @@ fn error_of(error: SinkError) -> WriteError
 /// Writes a file of one column of these values, in their order: not nullable, in one flat layout,
 /// without statistics and metadata. A segment of more than 2^32 - 1 bytes is refused.
 pub fn write<O: Sink>(alloc: Global, out: &mut O, values: &[i32]) -> Result<Written, WriteError>
-    ensures cause { Writes values.now (record { gained = O.gained out.old; faults = O.faults out.old; without_memory = O.without_memory out.old }) (record { gained = O.gained out.new; faults = O.faults out.new; without_memory = O.without_memory out.new }) result }
-    ensures sound { O.never_fails out.old ≡ true → result ≡ Err errors.WriteFault → ⊥ }
-    ensures never_falls { O.faults out.old ≤ O.faults out.new }
-    ensures wanted_never_falls { O.without_memory out.old ≤ O.without_memory out.new }
-    ensures same_soundness { O.never_fails out.new ≡ O.never_fails out.old }
+    ensures cause { Writes values.now (O.state out.old) (O.state out.new) result }
+    ensures sound { (O.state out.old).never_fails ≡ true →
+        (result ≡ Err errors.WriteFault → ⊥) × ((O.state out.new).faults ≡ (O.state out.old).faults) }
+    ensures same { SameSink (O.state out.old) (O.state out.new) }
 {
     written_footer_is_read();
     let Some(size) = column_size(values) else {

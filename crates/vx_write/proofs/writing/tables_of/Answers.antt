@@ -1,0 +1,11 @@
+use Rattle.std.proofs.Common.{arith}
+use Rattle.vx_write.proofs.Files.{not-refused}
+use Rattle.vx_write.proofs.writing.tables_of.Goals as goal
+
+pub unreachable-requires : goal.unreachable-requires
+unreachable-requires c =
+    not-refused _ c.args.count c.args.footer.now _ (omega (arith, c.from.ensures, c.ranges.size)) c.requires (rw c.in-Err-SegmentTooLong.field-0-is at c.in-Err-SegmentTooLong.ensures.value)
+
+pub unreachable-requires-in-Err-OffsetOverflow : goal.unreachable-requires-in-Err-OffsetOverflow
+unreachable-requires-in-Err-OffsetOverflow c =
+    not-refused _ c.args.count c.args.footer.now _ (omega (arith, c.from.ensures, c.ranges.size)) c.requires (rw c.in-Err-OffsetOverflow.field-0-is at c.in-Err-OffsetOverflow.ensures.value)
