@@ -1,13 +1,13 @@
 -- The texts of failures, piece by piece.
 use Rattle.std.proofs.Common.{◌≡◌, ℕ, List, [], ◌∷◌, ◌++◌, codes, decimal, sym, ap, subst, ◌∙◌, append_assoc}
 use Rattle.vx_base.specs.FaultName.{fault_name}
-use Rattle.vx_base.specs.Taking.{SinkKnown}
-use Rattle.vx_file.specs.declared.fault.Fault.{Fault}
-use Rattle.vx_file.specs.declared.fault.Place.TheVariants.{Size, Range}
+use Rattle.vx_base.specs.Streams.{SinkState, SourceState}
+use Rattle.vx_sched.specs.declared.fault.Fault.{Fault}
+use Rattle.vx_sched.specs.declared.fault.Place.TheVariants.{Size, Range}
 use Rattle.vx_main.specs.Render.{place_words}
 use Rattle.vx_main.specs.Run.{Tells, read_words, place_text}
 
-pub tells-same : (a b : List ℕ) (before now : SinkKnown) → a ≡ b → Tells a before now → Tells b before now
+pub tells-same : (a b : List ℕ) (before now : SinkState) → a ≡ b → Tells a before now → Tells b before now
 tells-same a b before now same h = subst (λ text. Tells text before now) same h
 
 pub size-text : (fault : Fault) → fault.place ≡ Size → codes "vx: read size\n" ≡ codes "vx: read " ++ read_words fault ++ codes "\n"

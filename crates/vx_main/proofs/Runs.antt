@@ -4,22 +4,23 @@ use Rattle.std.specs.Prelude.{Vec}
 use Rattle.std.specs.Global.{Global}
 use Rattle.std.specs.Option.{option_map}
 use Rattle.vx_base.specs.Counts.{Rises, last_count}
-use Rattle.vx_base.specs.Returning.{Returned}
+use Rattle.vx_base.specs.Streams.{SourceState}
+use Rattle.vx_base.specs.Openers.{OpenerState, Returned, AsksFor}
 use Rattle.vx_file.specs.declared.step.Step.{Step}
 use Rattle.vx_base.specs.Asking.{Log}
-use Rattle.vx_file.specs.Asked.{Entry, Grew, entries}
-use Rattle.vx_file.specs.Asking.{Known}
-use Rattle.vx_file.specs.declared.fault.Fault.{Fault}
-use Rattle.vx_file.specs.Serving.{asked, tail_entry, SizeFault, TailFault, RefusedFrom, repeats}
+use Rattle.vx_file.specs.Logs.{Grew}
+use Rattle.vx_base.specs.Readers.{ReaderState}
+use Rattle.vx_sched.specs.declared.fault.Fault.{Fault}
+use Rattle.vx_file.specs.Serving.{asked, tail_asked, SizeFault, TailFault, RefusedFrom, repeats}
 use Rattle.vx_main.specs.Script.{script_of}
 use Rattle.vx_file.specs.Turns.{bad_replies}
 use Rattle.vx_main.specs.declared.failure.Failure.{Failure}
 use Rattle.vx_main.specs.declared.failure.Failure.TheVariants as failures
 use Rattle.vx_main.specs.Reading.{ServesText, ReaderCause, ReaderFault, StepsCause}
-use Rattle.vx_main.specs.Run.{ScriptCause, FilesKnown, FileCause, GivesBack, ServesFile, RefusesFile, LacksSize, LacksTail, AskedOnce}
-use Rattle.vx_main.specs.Streams.{SourceKnown, ReadToEnd}
+use Rattle.vx_main.specs.Run.{ScriptCause, FileCause, GivesBack, GaveBack, AskedAndBack, LeavesOpener, ServesFile, RefusesFile, LacksSize, LacksTail}
+use Rattle.vx_main.specs.Streams.{ReadToEnd}
 
-pub script-cause : (before now : SourceKnown) (text : List ℕ) (answer : Result (Vec Step Global) Failure) → ((t : List ℕ) → before.rest ≡ Some t → (text ≡ t) × ReadToEnd t now) → StepsCause text answer → ScriptCause before now answer
+pub script-cause : (before now : SourceState) (text : List ℕ) (answer : Result (Vec Step Global) Failure) → ((t : List ℕ) → before.rest ≡ Some t → (text ≡ t) × ReadToEnd t now) → StepsCause text answer → ScriptCause before now answer
 script-cause before now text (Ok steps) read h = λ t told. let r = read t told in (r.1, subst (λ x. script_of x ≡ Ok steps.items) r.0 h.0)
 script-cause before now text (Err (failures.Line line)) read h = λ t told. let r = read t told in (r.1, subst (λ x. script_of x ≡ Err line) r.0 h)
 script-cause before now text (Err failures.Script) read h = λ t told. let r = read t told in (r.1, subst (λ x. (steps : List Step) × (script_of x ≡ Ok steps) × (repeats [] steps ≡ true)) r.0 h)
@@ -33,11 +34,11 @@ script-cause before now text (Err failures.Open) read h = absurd h
 script-cause before now text (Err failures.InputTooLong) read h = absurd h
 
 -- a reader was opened by a name and taken back
-pub record Lent (name : List ℕ) (before now : FilesKnown) (opened served : Known) : Type 0 where
-  pub told : (b : List ℕ) → before.file ≡ Some b → opened.bytes ≡ Some b
+pub record Lent (name : List ℕ) (before now : OpenerState) (opened served : ReaderState) : Type 0 where
+  pub told : (b : List ℕ) → before.file name ≡ Some b → opened.bytes ≡ Some b
   pub fresh : (all : List Returned) → before.returned ≡ Some all → opened.log ≡ Some []
   pub faultless : opened.faults ≡ 0
-  pub asked : AskedOnce name before now
+  pub asked : AsksFor name before now
   pub returned : now.returned ≡ option_map (λ all. all ++ record { name = name; log = served.log } ∷ []) before.returned
   pub counted : now.read_faults ≡ min (before.read_faults + served.faults) last_count
   pub never_falls : before.read_faults ≤ now.read_faults
@@ -45,17 +46,20 @@ pub record Lent (name : List ℕ) (before now : FilesKnown) (opened served : Kno
 rises-through : (by before now opened served : ℕ) → opened ≡ 0 → now ≡ min (before + served) last_count → before ≤ now → Rises by opened served → Rises by before now
 rises-through by before now opened served none counted later h = record { later = later; risen = omega (arith, h.later, h.risen) }
 
-fresh-log : (gained : List Entry) (before now : Option Log) → before ≡ Some [] → Grew gained before now → entries now ≡ Some gained
-fresh-log gained before now fresh h = h ∙ ap (λ log. option_map (λ l. l ++ gained) (entries log)) fresh
+fresh-log : (gained : Log) (before now : Option Log) → before ≡ Some [] → Grew gained before now → now ≡ Some gained
+fresh-log gained before now fresh h = h ∙ ap (λ log. option_map (λ l. l ++ gained) log) fresh
 
-gives-back : (name : List ℕ) (before now : FilesKnown) (opened served : Known) (gained : List Entry) → Lent name before now opened served → Grew gained opened.log served.log → GivesBack name before now gained
+gave-back : (name : List ℕ) (before now : OpenerState) (opened served : ReaderState) → Lent name before now opened served → GaveBack name before now
+gave-back name before now opened served lent = record { log = served.log; returned = lent.returned }
+
+gives-back : (name : List ℕ) (before now : OpenerState) (opened served : ReaderState) (gained : Log) → Lent name before now opened served → Grew gained opened.log served.log → GivesBack name before now gained
 gives-back name before now opened served gained lent grew = record {
   log = served.log;
   returned = lent.returned;
   asked = λ all told. fresh-log gained opened.log served.log (lent.fresh all told) grew;
 }
 
-serves-file : (file name : List ℕ) (script : List Step) (before now : FilesKnown) (opened served : Known) (text : List ℕ) → Lent name before now opened served → ServesText file script opened served text
+serves-file : (file name : List ℕ) (script : List Step) (before now : OpenerState) (opened served : ReaderState) (text : List ℕ) → Lent name before now opened served → ServesText file script opened served text
     → ServesFile file name script before now text
 serves-file file name script before now opened served text lent h = record {
   served = h.served;
@@ -67,20 +71,20 @@ serves-file file name script before now opened served text lent h = record {
   rendered = h.rendered;
 }
 
-lacks : (file name : List ℕ) (fault : Fault) (before now : FilesKnown) (opened served : Known) → Lent name before now opened served → SizeFault opened served fault ⊎ TailFault file opened served fault
+lacks : (file name : List ℕ) (fault : Fault) (before now : OpenerState) (opened served : ReaderState) → Lent name before now opened served → SizeFault opened served fault ⊎ TailFault file opened served fault
     → LacksSize name fault before now ⊎ LacksTail file name fault before now
 lacks file name fault before now opened served lent (inl h) = inl (record { is = h.is; back = gives-back name before now opened served [] lent h.asked })
-lacks file name fault before now opened served lent (inr h) = inr (record { place = h.place; back = gives-back name before now opened served (tail_entry file fault ∷ []) lent h.asked })
+lacks file name fault before now opened served lent (inr h) = inr (record { place = h.place; back = gives-back name before now opened served (tail_asked file fault ∷ []) lent h.asked })
 
-refuses : (file name : List ℕ) (before now : FilesKnown) (opened served : Known) → Lent name before now opened served → RefusedFrom file opened served → RefusesFile file name before now
+refuses : (file name : List ℕ) (before now : OpenerState) (opened served : ReaderState) → Lent name before now opened served → RefusedFrom file opened served → RefusesFile file name before now
 refuses file name before now opened served lent h = record { outside = h.outside; back = gives-back name before now opened served _ lent h.asked }
 
-pub file-cause : (name : List ℕ) (script : List Step) (before now : FilesKnown) (opened served : Known) (answer : Result (Vec ℕ Global) Failure) → Lent name before now opened served
+pub file-cause : (name : List ℕ) (script : List Step) (before now : OpenerState) (opened served : ReaderState) (answer : Result (Vec ℕ Global) Failure) → Lent name before now opened served
     → ((file : List ℕ) → opened.bytes ≡ Some file → ReaderCause file script opened served answer) → ReaderFault opened served answer → FileCause name script before now answer
-file-cause name script before now opened served (Ok text) lent cause read = (lent.asked, λ file told. serves-file file name script before now opened served text.items lent (cause file (lent.told file told)))
-file-cause name script before now opened served (Err (failures.Read fault)) lent cause read = (lent.asked, rises-through 1 before.read_faults now.read_faults opened.faults served.faults lent.faultless lent.counted lent.never_falls read, λ file told. lacks file name fault before now opened served lent (cause file (lent.told file told)))
-file-cause name script before now opened served (Err failures.Refused) lent cause read = (lent.asked, λ file told. refuses file name before now opened served lent (cause file (lent.told file told)))
-file-cause name script before now opened served (Err failures.OutOfMemory) lent cause read = tt
+file-cause name script before now opened served (Ok text) lent cause read = (lent.asked, gave-back name before now opened served lent, λ file told. serves-file file name script before now opened served text.items lent (cause file (lent.told file told)))
+file-cause name script before now opened served (Err (failures.Read fault)) lent cause read = (lent.asked, gave-back name before now opened served lent, rises-through 1 before.read_faults now.read_faults opened.faults served.faults lent.faultless lent.counted lent.never_falls read, λ file told. lacks file name fault before now opened served lent (cause file (lent.told file told)))
+file-cause name script before now opened served (Err failures.Refused) lent cause read = (lent.asked, gave-back name before now opened served lent, λ file told. refuses file name before now opened served lent (cause file (lent.told file told)))
+file-cause name script before now opened served (Err failures.OutOfMemory) lent cause read = inr (record { asked = lent.asked; back = inl (gave-back name before now opened served lent) })
 file-cause name script before now opened served (Err (failures.Line line)) lent cause read = absurd read
 file-cause name script before now opened served (Err failures.Script) lent cause read = absurd read
 file-cause name script before now opened served (Err failures.Usage) lent cause read = absurd read

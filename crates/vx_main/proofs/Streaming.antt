@@ -3,9 +3,10 @@ use Rattle.std.proofs.Common.{◌≡◌, ℕ, ◌+◌, ◌≤◌, List, [], ◌+
 use Rattle.std.proofs.lemmas.List.{drop-drop, append-nil, take-append-drop}
 use Rattle.std.proofs.Math.Seq.{take-add}
 use Rattle.vx_base.specs.Counts.{Rises}
+use Rattle.vx_base.specs.Streams.{SourceState}
 use Rattle.vx_main.specs.declared.input.InputError.{InputError}
 use Rattle.vx_main.specs.declared.input.InputError.TheVariants as errors
-use Rattle.vx_main.specs.Streams.{SourceKnown, ReadToEnd, TooLong, InputCause, most_input}
+use Rattle.vx_main.specs.Streams.{ReadToEnd, TooLong, InputCause, most_input}
 
 -- ---- input
 
@@ -21,26 +22,26 @@ reading-turn r rest rest' text text' k k' n h t e = (
   omega (arith, t.0, length-drop k r, h.2),
 )
 
-pub reading-ends : (r : List ℕ) (rest rest' : Option (List ℕ)) (text text' : List ℕ) (k k' n faults : ℕ) → Reading r rest text k
+pub reading-ends : (r : List ℕ) (rest rest' : Option (List ℕ)) (text text' : List ℕ) (k k' n : ℕ) (now : SourceState) → Reading r rest text k
     → (n ≤ length (drop k r)) × (rest' ≡ Some (drop n (drop k r))) × (text' ≡ text ++ take n (drop k r)) → k' ≡ k + n → drop k r ≡ [] → k ≤ most_input
-    → (text' ≡ r) × ReadToEnd r (record { rest = rest'; faults = faults })
-reading-ends r rest rest' text text' k k' n faults h t e none bound =
+    → now.rest ≡ rest' → (text' ≡ r) × ReadToEnd r now
+reading-ends r rest rest' text text' k k' n now h t e none bound is =
     let all : take k r ≡ r = sym (append-nil (take k r)) ∙ sym (ap (λ x. take k r ++ x) none) ∙ take-append-drop k r in
     let nothing : n ≡ 0 = omega (arith, t.0, ap length none) in
     let size : length r ≡ k = omega (arith, length-drop k r, ap length none, h.2) in (
       t.2 ∙ ap (λ m. text ++ take m (drop k r)) nothing ∙ append-nil text ∙ h.1 ∙ all,
-      record { ended = t.1 ∙ ap (λ m. Some (drop m (drop k r))) nothing ∙ ap Some none; short = omega (arith, size) },
+      record { ended = is ∙ t.1 ∙ ap (λ m. Some (drop m (drop k r))) nothing ∙ ap Some none; short = omega (arith, size) },
     )
 
-pub reading-long : (r : List ℕ) (rest : Option (List ℕ)) (text : List ℕ) (k faults : ℕ) → Reading r rest text k → k ≡ most_input + 1 → TooLong r (record { rest = rest; faults = faults })
-reading-long r rest text k faults h e = record { long = omega (arith, h.2); taken = h.0 ∙ ap (λ m. Some (drop m r)) e }
+pub reading-long : (r : List ℕ) (text : List ℕ) (k : ℕ) (now : SourceState) → Reading r now.rest text k → k ≡ most_input + 1 → TooLong r now
+reading-long r text k now h e = record { long = omega (arith, h.2); taken = h.0 ∙ ap (λ m. Some (drop m r)) e }
 
 -- ---- faults of an input
 
 pub rises-from : (start before now : ℕ) → start ≤ before → Rises 1 before now → Rises 1 start now
 rises-from start before now le h = record { later = omega (arith, h.later); risen = omega (arith, h.risen) }
 
-pub err-cause : {A : Type 0} (view : A → List ℕ) (before now : SourceKnown) (e : InputError) → (e ≡ errors.Failed → Rises 1 before.faults now.faults) → (e ≡ errors.TooLong → ⊥) → InputCause view before now (Err e)
+pub err-cause : {A : Type 0} (view : A → List ℕ) (before now : SourceState) (e : InputError) → (e ≡ errors.Failed → Rises 1 before.faults now.faults) → (e ≡ errors.TooLong → ⊥) → InputCause view before now (Err e)
 err-cause view before now errors.Failed failed short = failed refl
 err-cause view before now errors.TooLong failed short = absurd (short refl)
 err-cause view before now errors.OutOfMemory failed short = tt

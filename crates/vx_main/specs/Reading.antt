@@ -4,7 +4,7 @@ use Rattle.std.specs.Global.{Global}
 use Rattle.vx_base.specs.Counts.{Rises}
 use Rattle.vx_file.specs.declared.step.Step.{Step}
 use Rattle.vx_file.specs.declared.served.Served.{Served}
-use Rattle.vx_file.specs.Asking.{Known}
+use Rattle.vx_base.specs.Readers.{ReaderState}
 use Rattle.vx_file.specs.Serving.{ServedFrom, RefusedFrom, SizeFault, TailFault, repeats}
 use Rattle.vx_main.specs.declared.script.ScriptError.{ScriptError}
 use Rattle.vx_main.specs.declared.script.ScriptError.TheVariants.{Line, OutOfMemory}
@@ -14,19 +14,19 @@ use Rattle.vx_main.specs.declared.failure.Failure.TheVariants as failures
 use Rattle.vx_main.specs.Render.{render_text}
 
 -- a script was served, and this is the text of it
-pub record ServesText (file : List ℕ) (script : List Step) (before now : Known) (text : List ℕ) : Type 0 where
+pub record ServesText (file : List ℕ) (script : List Step) (before now : ReaderState) (text : List ℕ) : Type 0 where
   pub served : Served
   pub serves : ServedFrom file script before now served
   pub rendered : text ≡ render_text served
 
-abbrev pub ReaderCause : List ℕ → List Step → Known → Known → Result (Vec ℕ Global) Failure → Type 0
+abbrev pub ReaderCause : List ℕ → List Step → ReaderState → ReaderState → Result (Vec ℕ Global) Failure → Type 0
 ReaderCause file script before now (Ok text) = ServesText file script before now text.items
 ReaderCause file script before now (Err (failures.Read fault)) = SizeFault before now fault ⊎ TailFault file before now fault
 ReaderCause file script before now (Err failures.Refused) = RefusedFrom file before now
 ReaderCause file script before now (Err failures.OutOfMemory) = Unit {0}
 ReaderCause file script before now (Err _) = ⊥
 
-abbrev pub ReaderFault : Known → Known → Result (Vec ℕ Global) Failure → Type 0
+abbrev pub ReaderFault : ReaderState → ReaderState → Result (Vec ℕ Global) Failure → Type 0
 ReaderFault before now (Ok text) = Unit {0}
 ReaderFault before now (Err (failures.Read fault)) = Rises 1 before.faults now.faults
 ReaderFault before now (Err failures.Refused) = Unit {0}

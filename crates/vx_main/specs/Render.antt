@@ -8,9 +8,9 @@ use Rattle.vx_base.specs.declared.segment.SegmentSpec.{SegmentSpec}
 use Rattle.vx_footer.specs.declared.footer.Footer.{Footer}
 use Rattle.vx_footer.specs.declared.ptype.PType.{PType}
 use Rattle.vx_footer.specs.declared.ptype.PType.TheVariants.{U8, U16, U32, U64, I8, I16, I32, I64}
-use Rattle.vx_file.specs.declared.fault.Fault.{Fault}
-use Rattle.vx_file.specs.declared.fault.Place.{Place}
-use Rattle.vx_file.specs.declared.fault.Place.TheVariants.{Size, Range}
+use Rattle.vx_sched.specs.declared.fault.Fault.{Fault}
+use Rattle.vx_sched.specs.declared.fault.Place.{Place}
+use Rattle.vx_sched.specs.declared.fault.Place.TheVariants.{Size, Range}
 use Rattle.vx_file.specs.declared.reply.Reply.{Reply}
 use Rattle.vx_file.specs.declared.reply.Reply.TheVariants.{Registered, MissingSegment, Ready, Pending, Failed, NotLive, Driven}
 use Rattle.vx_file.specs.declared.span.Span.{Span}

@@ -1,20 +1,20 @@
 -- What a run of the program answers.
-use Rattle.std.specs.Prelude.{◌≡◌, ℕ, ℤ, ◌-◌, true, false, List, [], ◌∷◌, ◌++◌, length, codes, decimal, Option, Some, None, Result, Ok, Err, IsErr, ◌⊎◌, Vec}
+use Rattle.std.specs.Prelude.{◌≡◌, ℕ, ℤ, ◌-◌, ◌≤◌, true, false, List, [], ◌∷◌, ◌++◌, length, codes, decimal, Option, Some, None, Result, Ok, Err, IsErr, ◌⊎◌, Vec}
 use Rattle.std.specs.Global.{Global}
 use Rattle.std.specs.Option.{option_map}
 use Rattle.vx_base.specs.Asking.{Log}
-use Rattle.vx_base.specs.Counts.{Rises}
-use Rattle.vx_base.specs.Returning.{Returned}
-use Rattle.vx_base.specs.Taking.{SinkKnown, Took, TookPrefix}
+use Rattle.vx_base.specs.Counts.{Rises, last_count}
+use Rattle.vx_base.specs.Openers.{OpenerState, SameOpener, Returned, AsksFor}
+use Rattle.vx_base.specs.Streams.{SinkState, SourceState, SameSink, SameSource, Took, TookPrefix}
 use Rattle.vx_footer.specs.Opening.{vx_grammar, tail_start}
-use Rattle.vx_file.specs.declared.fault.Fault.{Fault}
-use Rattle.vx_file.specs.declared.fault.Place.{Place}
-use Rattle.vx_file.specs.declared.fault.Place.TheVariants.{Size, Range}
+use Rattle.vx_sched.specs.declared.fault.Fault.{Fault}
+use Rattle.vx_sched.specs.declared.fault.Place.{Place}
+use Rattle.vx_sched.specs.declared.fault.Place.TheVariants.{Size, Range}
 use Rattle.vx_file.specs.declared.step.Step.{Step}
 use Rattle.vx_file.specs.declared.served.Served.{Served}
-use Rattle.vx_file.specs.Asked.{Entry, entries}
 use Rattle.vx_file.specs.Fits.{Fits}
-use Rattle.vx_file.specs.Serving.{asked, opened, world_of, tail_ranges, tail_entry, size_fault, repeats}
+use Rattle.vx_sched.specs.Outcomes.{size_fault}
+use Rattle.vx_file.specs.Serving.{asked, opened, world_of, tail_ranges, tail_asked, repeats}
 use Rattle.vx_file.specs.Turns.{bad_replies}
 use Rattle.vx_main.specs.declared.command.Command.{Command}
 use Rattle.vx_main.specs.declared.command.Command.TheVariants.{Help, Version, Serve, Demo}
@@ -24,7 +24,7 @@ use Rattle.vx_main.specs.declared.failure.Failure.{Failure}
 use Rattle.vx_main.specs.declared.failure.Failure.TheVariants as failures
 use Rattle.vx_main.specs.Render.{render_text, fault_words}
 use Rattle.vx_main.specs.Script.{script_of}
-use Rattle.vx_main.specs.Streams.{SourceKnown, ReadToEnd, TooLong}
+use Rattle.vx_main.specs.Streams.{ReadToEnd, TooLong}
 
 -- ---- statuses and their texts
 
@@ -73,7 +73,7 @@ version_text = codes "vx 0.1.0\n"
 -- ---- the script
 
 -- what was taken of the input has its cause
-abbrev pub ScriptCause : SourceKnown → SourceKnown → Result (Vec Step Global) Failure → Type 0
+abbrev pub ScriptCause : SourceState → SourceState → Result (Vec Step Global) Failure → Type 0
 ScriptCause before now (Ok steps) = (text : List ℕ) → before.rest ≡ Some text → ReadToEnd text now × (script_of text ≡ Ok steps.items)
 ScriptCause before now (Err (failures.Line line)) = (text : List ℕ) → before.rest ≡ Some text → ReadToEnd text now × (script_of text ≡ Err line)
 ScriptCause before now (Err failures.Script) = (text : List ℕ) → before.rest ≡ Some text → ReadToEnd text now × ((steps : List Step) × (script_of text ≡ Ok steps) × (repeats [] steps ≡ true))
@@ -84,28 +84,16 @@ ScriptCause before now (Err _) = ⊥
 
 -- ---- the file
 
--- what an opener knows of one name: its bytes; the names asked for, the readers taken back, and counts of faults
-pub record FilesKnown : Type 0 where
-  pub file : Option (List ℕ)
-  pub asked : Option (List (List ℕ))
-  pub returned : Option (List Returned)
-  pub faults : ℕ
-  pub read_faults : ℕ
-
--- the name was asked for, once
-abbrev pub AskedOnce : List ℕ → FilesKnown → FilesKnown → Type 0
-AskedOnce name before now = now.asked ≡ option_map (λ names. names ++ name ∷ []) before.asked
-
 -- one reader was taken back, which had been asked exactly for these ranges
-pub record GivesBack (name : List ℕ) (before now : FilesKnown) (ranges : List Entry) : Type 0 where
+pub record GivesBack (name : List ℕ) (before now : OpenerState) (ranges : Log) : Type 0 where
   pub log : Option Log
   pub returned : now.returned ≡ option_map (λ all. all ++ record { name = name; log = log } ∷ []) before.returned
-  pub asked : (all : List Returned) → before.returned ≡ Some all → entries log ≡ Some ranges
+  pub asked : (all : List Returned) → before.returned ≡ Some all → log ≡ Some ranges
 
 -- A script was served from the file of a name, and this is the text of it: the footer is that of the
 -- grammar, the replies fit the script, one for each step, and the reader had been asked exactly for the
 -- ranges of opening and of the drives.
-pub record ServesFile (file name : List ℕ) (script : List Step) (before now : FilesKnown) (text : List ℕ) : Type 0 where
+pub record ServesFile (file name : List ℕ) (script : List Step) (before now : OpenerState) (text : List ℕ) : Type 0 where
   pub served : Served
   pub footer : vx_grammar file ≡ Ok served.footer
   pub opening : served.opening ≡ tail_ranges (length file)
@@ -115,47 +103,66 @@ pub record ServesFile (file name : List ℕ) (script : List Step) (before now : 
   pub rendered : text ≡ render_text served
 
 -- the file is outside the grammar, and the reader had been asked for the opening ranges alone
-pub record RefusesFile (file name : List ℕ) (before now : FilesKnown) : Type 0 where
+pub record RefusesFile (file name : List ℕ) (before now : OpenerState) : Type 0 where
   pub outside : IsErr (vx_grammar file)
   pub back : GivesBack name before now (opened (tail_ranges (length file)))
 
 -- the size could not be had, and the reader had been asked for no range
-pub record LacksSize (name : List ℕ) (fault : Fault) (before now : FilesKnown) : Type 0 where
+pub record LacksSize (name : List ℕ) (fault : Fault) (before now : OpenerState) : Type 0 where
   pub is : fault ≡ size_fault
   pub back : GivesBack name before now []
 
 -- the opening range could not be read, which the fault names
-pub record LacksTail (file name : List ℕ) (fault : Fault) (before now : FilesKnown) : Type 0 where
+pub record LacksTail (file name : List ℕ) (fault : Fault) (before now : OpenerState) : Type 0 where
   pub place : fault.place ≡ Range (tail_start (length file)) (length file - tail_start (length file))
-  pub back : GivesBack name before now (tail_entry file fault ∷ [])
+  pub back : GivesBack name before now (tail_asked file fault ∷ [])
 
--- what serving the file of a name gave has its cause
-abbrev pub FileCause : List ℕ → List Step → FilesKnown → FilesKnown → Result (Vec ℕ Global) Failure → Type 0
-FileCause name script before now (Ok text) = AskedOnce name before now × ((file : List ℕ) → before.file ≡ Some file → ServesFile file name script before now text.items)
-FileCause name script before now (Err failures.Open) = AskedOnce name before now × Rises 1 before.faults now.faults
-FileCause name script before now (Err (failures.Read fault)) =
-    AskedOnce name before now × Rises 1 before.read_faults now.read_faults × ((file : List ℕ) → before.file ≡ Some file → LacksSize name fault before now ⊎ LacksTail file name fault before now)
-FileCause name script before now (Err failures.Refused) = AskedOnce name before now × ((file : List ℕ) → before.file ≡ Some file → RefusesFile file name before now)
-FileCause name script before now (Err failures.OutOfMemory) = Unit {0}
-FileCause name script before now (Err _) = ⊥
+-- one reader was taken back
+pub record GaveBack (name : List ℕ) (before now : OpenerState) : Type 0 where
+  pub log : Option Log
+  pub returned : now.returned ≡ option_map (λ all. all ++ record { name = name; log = log } ∷ []) before.returned
 
 -- nothing was asked of an opener
-abbrev pub Untouched : FilesKnown → FilesKnown → Type 0
+pub record AsksNothing (before now : OpenerState) : Type 0 where
+  pub asked : now.asked ≡ before.asked
+  pub returned : now.returned ≡ before.returned
+
+-- the name was asked for, and a reader that was opened was taken back, or a call of the opener found no memory
+pub record AskedAndBack (name : List ℕ) (before now : OpenerState) : Type 0 where
+  pub asked : AsksFor name before now
+  pub back : GaveBack name before now ⊎ Rises 1 before.memory_faults now.memory_faults
+
+-- what stands after want of memory: the name was asked for once or not at all
+abbrev pub LeavesOpener : List ℕ → OpenerState → OpenerState → Type 0
+LeavesOpener name before now = AsksNothing before now ⊎ AskedAndBack name before now
+
+-- what serving the file of a name gave has its cause
+abbrev pub FileCause : List ℕ → List Step → OpenerState → OpenerState → Result (Vec ℕ Global) Failure → Type 0
+FileCause name script before now (Ok text) = AsksFor name before now × GaveBack name before now × ((file : List ℕ) → before.file name ≡ Some file → ServesFile file name script before now text.items)
+FileCause name script before now (Err failures.Open) = AsksFor name before now × Rises 1 before.faults now.faults
+FileCause name script before now (Err (failures.Read fault)) =
+    AsksFor name before now × GaveBack name before now × Rises 1 before.read_faults now.read_faults × ((file : List ℕ) → before.file name ≡ Some file → LacksSize name fault before now ⊎ LacksTail file name fault before now)
+FileCause name script before now (Err failures.Refused) = AsksFor name before now × GaveBack name before now × ((file : List ℕ) → before.file name ≡ Some file → RefusesFile file name before now)
+FileCause name script before now (Err failures.OutOfMemory) = LeavesOpener name before now
+FileCause name script before now (Err _) = ⊥
+
+-- an opener was not called
+abbrev pub Untouched : OpenerState → OpenerState → Type 0
 Untouched before now = now ≡ before
 
 -- the script came first: where it fails, no file is opened
-abbrev pub LoadedCause : List ℕ → FilesKnown → FilesKnown → Result (Vec Step Global) Failure → Result (Vec ℕ Global) Failure → Type 0
+abbrev pub LoadedCause : List ℕ → OpenerState → OpenerState → Result (Vec Step Global) Failure → Result (Vec ℕ Global) Failure → Type 0
 LoadedCause name before now (Ok steps) answer = (repeats [] steps.items ≡ false) × FileCause name steps.items before now answer
 LoadedCause name before now (Err failure) answer = (answer ≡ Err failure) × Untouched before now
 
 -- the answer of a serve command has its cause
-pub record ServeCause (name : List ℕ) (source source_now : SourceKnown) (files files_now : FilesKnown) (answer : Result (Vec ℕ Global) Failure) : Type 0 where
+pub record ServeCause (name : List ℕ) (source source_now : SourceState) (files files_now : OpenerState) (answer : Result (Vec ℕ Global) Failure) : Type 0 where
   pub script : Result (Vec Step Global) Failure
   pub read : ScriptCause source source_now script
   pub answered : LoadedCause name files files_now script answer
 
 -- words that are no command, and commands that read nothing
-pub record PlainCause (source source_now : SourceKnown) (files files_now : FilesKnown) : Type 0 where
+pub record PlainCause (source source_now : SourceState) (files files_now : OpenerState) : Type 0 where
   pub unread : source_now ≡ source
   pub unopened : Untouched files files_now
 
@@ -171,13 +178,13 @@ DemoAnswer values (Ok steps) answer = (repeats [] steps.items ≡ false) × Demo
 DemoAnswer values (Err failure) answer = answer ≡ Err failure
 
 -- the answer of a demo command has its cause: no file is opened
-pub record DemoCause (values : List ℤ) (source source_now : SourceKnown) (files files_now : FilesKnown) (answer : Result (Vec ℕ Global) Failure) : Type 0 where
+pub record DemoCause (values : List ℤ) (source source_now : SourceState) (files files_now : OpenerState) (answer : Result (Vec ℕ Global) Failure) : Type 0 where
   pub script : Result (Vec Step Global) Failure
   pub read : ScriptCause source source_now script
   pub unopened : Untouched files files_now
   pub answered : DemoAnswer values script answer
 
-abbrev pub CommandCause : Option Command → Words → SourceKnown → SourceKnown → FilesKnown → FilesKnown → Result (Vec ℕ Global) Failure → Type 0
+abbrev pub CommandCause : Option Command → Words → SourceState → SourceState → OpenerState → OpenerState → Result (Vec ℕ Global) Failure → Type 0
 CommandCause None w source source_now files files_now answer = (answer ≡ Err failures.Usage) × PlainCause source source_now files files_now
 CommandCause (Some Help) w source source_now files files_now answer = IsText help_text answer × PlainCause source source_now files files_now
 CommandCause (Some Version) w source source_now files files_now answer = IsText version_text answer × PlainCause source source_now files files_now
@@ -187,32 +194,33 @@ CommandCause (Some Demo) w source source_now files files_now answer = DemoCause 
 -- ---- what is written of the answer
 
 -- a text was written whole, or a prefix of it where a call of the stream failed or found no memory
-abbrev pub Tells : List ℕ → SinkKnown → SinkKnown → Type 0
-Tells text before now = Took text before.gained now.gained ⊎ (TookPrefix text before.gained now.gained × (Rises 1 before.faults now.faults ⊎ Rises 1 before.without_memory now.without_memory))
+abbrev pub Tells : List ℕ → SinkState → SinkState → Type 0
+Tells text before now = Took text before.gained now.gained ⊎ (TookPrefix text before.gained now.gained × (Rises 1 before.faults now.faults ⊎ Rises 1 before.memory_faults now.memory_faults))
 
 -- a failure has its status, and its text stands on the error stream
-pub record Fails (failure : Failure) (name : List ℕ) (err err_now : SinkKnown) (code : ℕ) : Type 0 where
+pub record Fails (failure : Failure) (name : List ℕ) (err err_now : SinkState) (code : ℕ) : Type 0 where
   pub status : code ≡ status_of failure
   pub told : Tells (message_of failure name) err err_now
 
 -- the text was written whole
-pub record Prints (text : List ℕ) (out out_now err err_now : SinkKnown) (code : ℕ) : Type 0 where
+pub record Prints (text : List ℕ) (out out_now err err_now : SinkState) (code : ℕ) : Type 0 where
   pub status : code ≡ 0
   pub took : Took text out.gained out_now.gained
+  pub flushed : out_now.is_flushed ≡ true
   pub quiet : err_now.gained ≡ err.gained
 
 -- a write of the text failed, and a prefix of it stands on the output
-pub record CutShort (text : List ℕ) (out out_now : SinkKnown) : Type 0 where
+pub record CutShort (text : List ℕ) (out out_now : SinkState) : Type 0 where
   pub took : TookPrefix text out.gained out_now.gained
   pub rose : Rises 1 out.faults out_now.faults
 
 -- a write found no memory, and a prefix of the text stands on the output
-pub record Unfinished (text : List ℕ) (out out_now : SinkKnown) : Type 0 where
+pub record Unfinished (text : List ℕ) (out out_now : SinkState) : Type 0 where
   pub took : TookPrefix text out.gained out_now.gained
-  pub rose : Rises 1 out.without_memory out_now.without_memory
+  pub rose : Rises 1 out.memory_faults out_now.memory_faults
 
 -- the status, the output and the error stream are those of the answer
-abbrev pub Concludes : Result (Vec ℕ Global) Failure → List ℕ → SinkKnown → SinkKnown → SinkKnown → SinkKnown → ℕ → Type 0
+abbrev pub Concludes : Result (Vec ℕ Global) Failure → List ℕ → SinkState → SinkState → SinkState → SinkState → ℕ → Type 0
 Concludes (Err failure) name out out_now err err_now status = (out_now.gained ≡ out.gained) × Fails failure name err err_now status
 Concludes (Ok text) name out out_now err err_now status =
     Prints text.items out out_now err err_now status
@@ -220,12 +228,33 @@ Concludes (Ok text) name out out_now err err_now status =
 
 -- ---- a run
 
--- what the streams and the opener know
+-- what the streams and the opener tell
 pub record Outside : Type 0 where
-  pub source : SourceKnown
-  pub files : FilesKnown
-  pub out : SinkKnown
-  pub err : SinkKnown
+  pub source : SourceState
+  pub files : OpenerState
+  pub out : SinkState
+  pub err : SinkState
+
+abbrev pub outside : SourceState → OpenerState → SinkState → SinkState → Outside
+outside source files out err = record { source = source; files = files; out = out; err = err }
+
+-- what no run changes
+pub record SameOutside (before now : Outside) : Type 0 where
+  pub source : SameSource before.source now.source
+  pub files : SameOpener before.files now.files
+  pub out : SameSink before.out now.out
+  pub err : SameSink before.err now.err
+
+-- the counts of an opener whose file of this name is told and never fails stand still
+pub record OpenerSteady (name : List ℕ) (before now : OpenerState) : Type 0 where
+  pub opens : before.never_fails name ≡ true → now.faults ≡ before.faults
+  pub reads : (file : List ℕ) → before.never_fails name ≡ true → before.file name ≡ Some file → before.read_faults ≤ last_count → now.read_faults ≡ before.read_faults
+
+-- the counts of what never fails stand still
+pub record KeepSteady (name : List ℕ) (before now : Outside) : Type 0 where
+  pub source : before.source.never_fails ≡ true → now.source.faults ≡ before.source.faults
+  pub files : OpenerSteady name before.files now.files
+  pub out : before.out.never_fails ≡ true → now.out.faults ≡ before.out.faults
 
 -- a run of the program: there is an answer that has its cause, and the status, the output and the error
 -- stream are those of it

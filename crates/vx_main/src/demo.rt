@@ -40,7 +40,7 @@ pub(crate) fn demonstrate(
 {
     let bytes = written_file(alloc, values)?;
     let file = ByteBuffer::from_vec(alloc, bytes, Alignment::none())?;
-    let mut reader = MemReader::new(alloc, file, None, CONCURRENCY, Vec::new(alloc))?;
+    let mut reader = MemReader::new(alloc, file, None, None, CONCURRENCY, Vec::new(alloc))?;
     match serve(alloc, &mut reader, script) {
         Ok(served) => Ok(render(alloc, &served)?),
         Err(ServeError::OutOfMemory) => Err(Failure::OutOfMemory),

@@ -1,11 +1,12 @@
 //! Why the program fails: its statuses and their texts.
 ghost use Rattle.std.specs.Prelude.{◌≡◌};
+ghost use Rattle.vx_base.specs.Streams.{SameSink};
 ghost use Rattle.vx_main.specs.Run.{Tells, status_of, message_of};
 
 use crate::telling::{tell, tell_line, tell_name, tell_read};
 use std::alloc::{AllocError, Global};
 use vx_base::Sink;
-use vx_file::Fault;
+use vx_sched::Fault;
 
 /// Why no text was printed, or not all of it.
 #[derive(Clone, Copy, Debug, PartialEq, Eq)]
@@ -62,7 +63,8 @@ impl Failure {
 
     /// Writes the line for the error stream. What the stream answers changes nothing.
     pub(crate) fn tell<E: Sink>(&self, alloc: Global, err: &mut E, name: &str)
-        ensures { Tells (message_of self.now name.now) (record { gained = E.gained err.old; faults = E.faults err.old; without_memory = E.without_memory err.old }) (record { gained = E.gained err.new; faults = E.faults err.new; without_memory = E.without_memory err.new }) }
+        ensures told { Tells (message_of self.now name.now) (E.state err.old) (E.state err.new) }
+    ensures same { SameSink (E.state err.old) (E.state err.new) }
     {
         match self {
             Failure::Usage => tell(alloc, err, &[b"vx: usage\n".as_slice()]),

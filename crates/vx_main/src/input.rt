@@ -1,6 +1,7 @@
 //! Reads an input to its end.
-ghost use Rattle.std.specs.Prelude.{◌≡◌, ◌+◌, ◌≤◌, ◌<◌, ℕ, List, [], ◌++◌, length, vec_len, take, drop, Some, IfOk, OnErr};
+ghost use Rattle.std.specs.Prelude.{◌≡◌, ◌+◌, ◌≤◌, ◌<◌, ℕ, List, [], ◌++◌, length, vec_len, take, drop, Some, true, IfOk, OnErr};
 ghost use Rattle.vx_base.specs.Counts.{Rises};
+ghost use Rattle.vx_base.specs.Streams.{SameSource};
 ghost use Rattle.vx_main.specs.Streams.{InputCause, most_input};
 ghost use Rattle.vx_main.specs.declared.input.InputError.TheVariants as errors;
 
@@ -39,12 +40,14 @@ fn take_some<I: Source>(
     piece: &mut [u8],
     text: &mut Vec<u8>,
 ) -> Result<usize, InputError>
-    ensures told { IfOk result (λ n. (r : List ℕ) → I.rest input.old ≡ Some r → (n ≤ length r) × (I.rest input.new ≡ Some (drop n r)) × (text.new.items ≡ text.old.items ++ take n r)) }
-    ensures end { IfOk result (λ n. (r : List ℕ) → n ≡ 0 → 0 < length piece.old → I.rest input.old ≡ Some r → r ≡ []) }
+    ensures told { IfOk result (λ n. (r : List ℕ) → (I.state input.old).rest ≡ Some r → (n ≤ length r) × ((I.state input.new).rest ≡ Some (drop n r)) × (text.new.items ≡ text.old.items ++ take n r)) }
+    ensures end { IfOk result (λ n. (r : List ℕ) → n ≡ 0 → 0 < length piece.old → (I.state input.old).rest ≡ Some r → r ≡ []) }
     ensures bound { IfOk result (λ n. (n ≤ length piece.old) × (vec_len text.new ≡ vec_len text.old + n)) }
-    ensures failed { result ≡ Err errors.Failed → Rises 1 (I.faults input.old) (I.faults input.new) }
+    ensures failed { result ≡ Err errors.Failed → Rises 1 ((I.state input.old).faults) ((I.state input.new).faults) }
     ensures short { result ≡ Err errors.TooLong → ⊥ }
-    ensures never_falls { I.faults input.old ≤ I.faults input.new }
+    ensures sound { (I.state input.old).never_fails ≡ true →
+        (result ≡ Err errors.Failed → ⊥) × ((I.state input.new).faults ≡ (I.state input.old).faults) }
+    ensures same { SameSource (I.state input.old) (I.state input.new) }
 {
     let Ok(n) = input.read(piece) else {
         return Err(InputError::Failed);
@@ -63,8 +66,9 @@ fn make_piece(alloc: Global) -> Result<Vec<u8>, AllocError>
 /// Reads an input to its end, in turns that each take at least one byte, and at most one byte more
 /// than an input may have.
 pub(crate) fn read_input<I: Source>(alloc: Global, input: &mut I) -> Result<Vec<u8>, InputError>
-    ensures cause { InputCause (λ text. text.items) (record { rest = I.rest input.old; faults = I.faults input.old }) (record { rest = I.rest input.new; faults = I.faults input.new }) result }
-    ensures never_falls { I.faults input.old ≤ I.faults input.new }
+    ensures cause { InputCause (λ text. text.items) (I.state input.old) (I.state input.new) result }
+    ensures sound { (I.state input.old).never_fails ≡ true → (I.state input.new).faults ≡ (I.state input.old).faults }
+    ensures same { SameSource (I.state input.old) (I.state input.new) }
 {
     let mut text = Vec::new(alloc);
     let mut buffer = make_piece(alloc)?;

@@ -3,19 +3,13 @@
 
 mod command;
 mod demo;
-#[cfg(test)]
-mod demo_tests;
 mod failure;
 mod input;
 mod render;
 mod repeats;
 mod run;
 mod script;
-#[cfg(test)]
-mod stream_tests;
 mod telling;
-#[cfg(test)]
-mod tests;
 
 use std::process::ExitCode;
 use std::{env, io};

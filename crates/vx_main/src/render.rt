@@ -6,7 +6,8 @@ ghost use Rattle.vx_main.specs.Render.{numbers_after, words, line, quoted, quote
 use itoa::Buffer;
 use std::alloc::{AllocError, Global};
 use vx_base::SegmentSpec;
-use vx_file::{Fault, Place, Reply, Served, Span, SpanOutcome};
+use vx_file::{Reply, Served, Span, SpanOutcome};
+use vx_sched::{Fault, Place};
 use vx_footer::{Footer, PType, TextList};
 
 /// Adds the digits of a number.
@@ -196,8 +197,8 @@ fn put_hex(alloc: Global, text: &mut Vec<u8>, bytes: &[u8]) -> Result<(), AllocE
 pub(crate) fn put_fault(text: &mut Vec<u8>, fault: &Fault) -> Result<(), AllocError>
     ensures { OnOk result (text.new.items ≡ text.old.items ++ fault_words fault.now) }
 {
-    text.extend_from_slice(fault.kind.name().as_bytes())?;
-    match fault.place {
+    text.extend_from_slice(fault.kind().name().as_bytes())?;
+    match fault.place() {
         Place::Size => text.extend_from_slice(b" size"),
         Place::Range { offset, length } => put_numbers(text, &[offset, length as u64]),
     }
@@ -210,7 +211,7 @@ fn put_outcome(text: &mut Vec<u8>, outcome: &SpanOutcome) -> Result<(), AllocErr
         SpanOutcome::Good => text.extend_from_slice(b" ok"),
         SpanOutcome::Bad(fault) => {
             text.push(b' ')?;
-            text.extend_from_slice(fault.kind.name().as_bytes())
+            text.extend_from_slice(fault.kind().name().as_bytes())
         }
     }
 }

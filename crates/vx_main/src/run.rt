@@ -3,7 +3,10 @@ ghost use Rattle.std.specs.Prelude.{◌≡◌, ◌≢◌, ◌≤◌, ◌<◌, �
 ghost use Rattle.vx_base.specs.Counts.{Rises};
 ghost use Rattle.vx_file.specs.Serving.{repeats};
 ghost use Rattle.vx_main.specs.Command.{command_of, name_of, words_of};
-ghost use Rattle.vx_main.specs.Run.{ScriptCause, FileCause, CommandCause, Concludes, Fails, Runs, help_text, version_text, IsText};
+ghost use Rattle.vx_base.specs.Openers.{SameOpener};
+ghost use Rattle.vx_base.specs.Readers.{SameReader};
+ghost use Rattle.vx_base.specs.Streams.{SameSource, SameSink};
+ghost use Rattle.vx_main.specs.Run.{ScriptCause, FileCause, CommandCause, Concludes, Fails, Runs, help_text, version_text, IsText, outside, OpenerSteady, KeepSteady, SameOutside};
 ghost use Rattle.vx_main.specs.Statuses.{Statuses};
 ghost use Rattle.vx_main.specs.Reading.{ReaderCause, ReaderFault, script_failure, StepsCause};
 ghost use Rattle.vx_main.specs.declared.command.Command.TheVariants.{Serve};
@@ -56,8 +59,10 @@ fn steps_of(alloc: Global, text: &[u8]) -> Result<Vec<Step>, Failure>
 
 /// The script that an input spells.
 fn load_script<I: Source>(alloc: Global, input: &mut I) -> Result<Vec<Step>, Failure>
-    ensures cause { ScriptCause (record { rest = I.rest input.old; faults = I.faults input.old }) (record { rest = I.rest input.new; faults = I.faults input.new }) result }
+    ensures cause { ScriptCause (I.state input.old) (I.state input.new) result }
     ensures distinct { IfOk result (λ steps. repeats [] steps.items ≡ false) }
+    ensures sound { (I.state input.old).never_fails ≡ true → (I.state input.new).faults ≡ (I.state input.old).faults }
+    ensures same { SameSource (I.state input.old) (I.state input.new) }
 {
     let text = match read_input(alloc, input) {
         Ok(text) => text,
@@ -75,8 +80,11 @@ fn serve_reader<R: Reader>(
     script: &[Step],
 ) -> Result<Vec<u8>, Failure>
     requires { repeats [] script.now ≡ false }
-    ensures cause { (file : List ℕ) → R.bytes reader.old ≡ Some file → ReaderCause file script.now (record { bytes = R.bytes reader.old; log = R.log reader.old; faults = R.faults reader.old; never_fails = R.never_fails reader.old }) (record { bytes = R.bytes reader.new; log = R.log reader.new; faults = R.faults reader.new; never_fails = R.never_fails reader.new }) result }
-    ensures read { ReaderFault (record { bytes = R.bytes reader.old; log = R.log reader.old; faults = R.faults reader.old; never_fails = R.never_fails reader.old }) (record { bytes = R.bytes reader.new; log = R.log reader.new; faults = R.faults reader.new; never_fails = R.never_fails reader.new }) result }
+    ensures cause { (file : List ℕ) → (R.state reader.old).bytes ≡ Some file → ReaderCause file script.now (R.state reader.old) (R.state reader.new) result }
+    ensures read { ReaderFault (R.state reader.old) (R.state reader.new) result }
+    ensures steady { (file : List ℕ) → (R.state reader.old).never_fails ≡ true → (R.state reader.old).bytes ≡ Some file →
+        (R.state reader.new).faults ≡ (R.state reader.old).faults }
+    ensures same { SameReader (R.state reader.old) (R.state reader.new) }
 {
     match serve(alloc, reader, script) {
         Ok(served) => Ok(render(alloc, &served)?),
@@ -94,7 +102,9 @@ fn serve_name<F: Opener>(
     script: &[Step],
 ) -> Result<Vec<u8>, Failure>
     requires { repeats [] script.now ≡ false }
-    ensures cause { FileCause name.now script.now (record { file = F.file files.old name.now; asked = F.asked files.old; returned = F.returned files.old; faults = F.faults files.old; read_faults = F.read_faults files.old }) (record { file = F.file files.new name.now; asked = F.asked files.new; returned = F.returned files.new; faults = F.faults files.new; read_faults = F.read_faults files.new }) result }
+    ensures cause { FileCause name.now script.now (F.state files.old) (F.state files.new) result }
+    ensures steady { OpenerSteady name.now (F.state files.old) (F.state files.new) }
+    ensures same { SameOpener (F.state files.old) (F.state files.new) }
 {
     let mut reader = match files.open_named(alloc, name) {
         Ok(reader) => reader,
@@ -113,8 +123,12 @@ fn produce<I: Source, F: Opener>(
     input: &mut I,
     files: &mut F,
 ) -> Result<Vec<u8>, Failure>
-    ensures cause { CommandCause (command_of (map string_bytes words.now)) (words_of (map string_bytes words.now)) (record { rest = I.rest input.old; faults = I.faults input.old }) (record { rest = I.rest input.new; faults = I.faults input.new })
-        (record { file = F.file files.old (name_of (map string_bytes words.now)); asked = F.asked files.old; returned = F.returned files.old; faults = F.faults files.old; read_faults = F.read_faults files.old }) (record { file = F.file files.new (name_of (map string_bytes words.now)); asked = F.asked files.new; returned = F.returned files.new; faults = F.faults files.new; read_faults = F.read_faults files.new }) result }
+    ensures cause { CommandCause (command_of (map string_bytes words.now)) (words_of (map string_bytes words.now)) (I.state input.old)
+        (I.state input.new) (F.state files.old) (F.state files.new) result }
+    ensures sound { (I.state input.old).never_fails ≡ true → (I.state input.new).faults ≡ (I.state input.old).faults }
+    ensures steady { OpenerSteady (name_of (map string_bytes words.now)) (F.state files.old) (F.state files.new) }
+    ensures same_input { SameSource (I.state input.old) (I.state input.new) }
+    ensures same_files { SameOpener (F.state files.old) (F.state files.new) }
 {
     match command_from(words) {
         None => Err(Failure::Usage),
@@ -134,7 +148,8 @@ fn produce<I: Source, F: Opener>(
 
 /// Writes a failure's text, and gives its status. A failing write changes no status.
 fn fail<E: Sink>(alloc: Global, err: &mut E, failure: Failure, name: &str) -> u8
-    ensures { Fails failure name.now (record { gained = E.gained err.old; faults = E.faults err.old; without_memory = E.without_memory err.old }) (record { gained = E.gained err.new; faults = E.faults err.new; without_memory = E.without_memory err.new }) result }
+    ensures fails { Fails failure name.now (E.state err.old) (E.state err.new) result }
+    ensures same { SameSink (E.state err.old) (E.state err.new) }
 {
     failure.tell(alloc, err, name);
     failure.status()
@@ -148,7 +163,10 @@ fn conclude<O: Sink, E: Sink>(
     out: &mut O,
     err: &mut E,
 ) -> u8
-    ensures { Concludes answer name.now (record { gained = O.gained out.old; faults = O.faults out.old; without_memory = O.without_memory out.old }) (record { gained = O.gained out.new; faults = O.faults out.new; without_memory = O.without_memory out.new }) (record { gained = E.gained err.old; faults = E.faults err.old; without_memory = E.without_memory err.old }) (record { gained = E.gained err.new; faults = E.faults err.new; without_memory = E.without_memory err.new }) result }
+    ensures concludes { Concludes answer name.now (O.state out.old) (O.state out.new) (E.state err.old) (E.state err.new) result }
+    ensures sound { (O.state out.old).never_fails ≡ true → (O.state out.new).faults ≡ (O.state out.old).faults }
+    ensures same_out { SameSink (O.state out.old) (O.state out.new) }
+    ensures same_err { SameSink (E.state err.old) (E.state err.new) }
 {
     let text = match answer {
         Ok(text) => text,
@@ -172,31 +190,21 @@ pub fn run<I: Source, F: Opener, O: Sink, E: Sink>(
     err: &mut E,
 ) -> u8
     // There is an answer that has its cause, and the status and what was written are those of it.
-    ensures cause { Runs (words_of (map string_bytes words.now)) (record {
-      source = record { rest = I.rest input.old; faults = I.faults input.old };
-      files = record { file = F.file files.old (name_of (map string_bytes words.now)); asked = F.asked files.old; returned = F.returned files.old; faults = F.faults files.old; read_faults = F.read_faults files.old };
-      out = record { gained = O.gained out.old; faults = O.faults out.old; without_memory = O.without_memory out.old };
-      err = record { gained = E.gained err.old; faults = E.faults err.old; without_memory = E.without_memory err.old };
-    })
-        (record {
-          source = record { rest = I.rest input.new; faults = I.faults input.new };
-          files = record { file = F.file files.new (name_of (map string_bytes words.now)); asked = F.asked files.new; returned = F.returned files.new; faults = F.faults files.new; read_faults = F.read_faults files.new };
-          out = record { gained = O.gained out.new; faults = O.faults out.new; without_memory = O.without_memory out.new };
-          err = record { gained = E.gained err.new; faults = E.faults err.new; without_memory = E.without_memory err.new };
-        }) result }
+    ensures cause { Runs (words_of (map string_bytes words.now))
+        (outside (I.state input.old) (F.state files.old) (O.state out.old) (E.state err.old))
+        (outside (I.state input.new) (F.state files.new) (O.state out.new) (E.state err.new)) result }
     // What each exit status says.
-    ensures statuses { Statuses (words_of (map string_bytes words.now)) (record {
-      source = record { rest = I.rest input.old; faults = I.faults input.old };
-      files = record { file = F.file files.old (name_of (map string_bytes words.now)); asked = F.asked files.old; returned = F.returned files.old; faults = F.faults files.old; read_faults = F.read_faults files.old };
-      out = record { gained = O.gained out.old; faults = O.faults out.old; without_memory = O.without_memory out.old };
-      err = record { gained = E.gained err.old; faults = E.faults err.old; without_memory = E.without_memory err.old };
-    })
-        (record {
-          source = record { rest = I.rest input.new; faults = I.faults input.new };
-          files = record { file = F.file files.new (name_of (map string_bytes words.now)); asked = F.asked files.new; returned = F.returned files.new; faults = F.faults files.new; read_faults = F.read_faults files.new };
-          out = record { gained = O.gained out.new; faults = O.faults out.new; without_memory = O.without_memory out.new };
-          err = record { gained = E.gained err.new; faults = E.faults err.new; without_memory = E.without_memory err.new };
-        }) result }
+    ensures statuses { Statuses (words_of (map string_bytes words.now))
+        (outside (I.state input.old) (F.state files.old) (O.state out.old) (E.state err.old))
+        (outside (I.state input.new) (F.state files.new) (O.state out.new) (E.state err.new)) result }
+    // No count of faults rises where no call fails.
+    ensures steady { KeepSteady (name_of (map string_bytes words.now))
+        (outside (I.state input.old) (F.state files.old) (O.state out.old) (E.state err.old))
+        (outside (I.state input.new) (F.state files.new) (O.state out.new) (E.state err.new)) }
+    // What no run changes.
+    ensures same { SameOutside
+        (outside (I.state input.old) (F.state files.old) (O.state out.old) (E.state err.old))
+        (outside (I.state input.new) (F.state files.new) (O.state out.new) (E.state err.new)) }
 {
     let answer = produce(alloc, words, input, files);
     conclude(alloc, answer, name_from(words), out, err)
