@@ -8,7 +8,6 @@ use Rattle.std.specs.List.{AllByRecursion, list_any}
 use Rattle.std.specs.BTreeMap.{is_at}
 use Rattle.std.specs.BTreeSet.{BTreeSet, contains}
 use Rattle.std.specs.Ordering.{nat_cmp}
-use Rattle.vx_base.specs.declared.segment.CoalesceConfig.{CoalesceConfig}
 use Rattle.vx_sched.specs.Span.{Span, end_of, AllWithin}
 use Rattle.vx_sched.specs.Reads.{Reads, read_at, waiting_at, if_waiting, is_waiting, is_polled}
 use Rattle.vx_sched.specs.Merging.{Merges, GathersIn, is_listed, is_in_order, is_in_order_after, is_before, first_offset, first_number, greatest_end}
@@ -48,13 +47,13 @@ within-range low (r ∷ rest) o l =
     (record { from = l; upto = omega arith }, within-more low (greatest_end rest) (max (end_of r) (greatest_end rest)) rest (omega arith) (within-after low r rest l o))
 
 -- a waiting test over two look-ups that agree
-pub merges-along : (window : Option CoalesceConfig) (alignment : ℕ) (f g : ℕ → Option ReadRequest) (next : ℕ) (span : Span)
-    → ((q : ℕ) → f q ≡ g q) → Merges window alignment f next span → Merges window alignment g next span
-merges-along window alignment f g next span same m = record {
+pub merges-along : (distance limit : Option ℕ) (alignment : ℕ) (f g : ℕ → Option ReadRequest) (next : ℕ) (span : Span)
+    → ((q : ℕ) → f q ≡ g q) → Merges distance limit alignment f next span → Merges distance limit alignment g next span
+merges-along distance limit alignment f g next span same m = record {
   waits = all span.reads m.waits;
   order = m.order;
   serves = m.serves;
-  gathers = gathers window m.gathers;
+  gathers = gathers distance m.gathers;
   range = m.range;
 }
   where
@@ -62,9 +61,9 @@ merges-along window alignment f g next span same m = record {
     all [] h = tt
     all (r ∷ rest) h = (sym (same r.id) ∙ h.0, all rest h.1)
 
-    gathers : (w : Option CoalesceConfig) → GathersIn w alignment f span.reads → GathersIn w alignment g span.reads
+    gathers : (w : Option ℕ) → GathersIn w limit alignment f span.reads → GathersIn w limit alignment g span.reads
     gathers None h = h
-    gathers (Some c) h = record { gaps = h.gaps; limit = h.limit; closure = λ r w u n. h.closure r (same r.id ∙ w) u n }
+    gathers (Some c) h = record { gaps = h.gaps; size = h.size; closure = λ r w u n. h.closure r (same r.id ∙ w) u n }
 
 -- a read that does not wait was not polled
 polled-none : (x : Option Read) → if_waiting x ≡ None → if_polled x ≡ false
@@ -88,7 +87,8 @@ pub record SoFar (s : Scheduler) (spans : List Span) (before : BTreeSet ℕ) (fr
   pub others : (q : ℕ) → contains nat_cmp before q ≡ false → read_at (all_taken s spans).reads q ≡ read_at s.reads q
   pub gone : (q : ℕ) → contains nat_cmp before q ≡ true → waiting_at (all_taken s spans).reads q ≡ None
   pub past : (q : ℕ) → q < from → polled_at s.reads q ≡ true → contains nat_cmp before q ≡ true
-  pub window : (all_taken s spans).window ≡ s.window
+  pub distance : (all_taken s spans).distance ≡ s.distance
+  pub limit : (all_taken s spans).limit ≡ s.limit
   pub alignment : (all_taken s spans).alignment ≡ s.alignment
 
 -- at first
@@ -98,7 +98,8 @@ so_far-start s before from e idle = record {
   others = λ q h. refl;
   gone = λ q h. cc (sym h ∙ ap (λ ks. list_any (is_at (nat_cmp q)) ks) e);
   past = λ q h p. cc (sym p ∙ idle q h);
-  window = refl;
+  distance = refl;
+  limit = refl;
   alignment = refl;
 }
 
@@ -124,7 +125,7 @@ module _ (s : Scheduler) (spans : List Span) (before : BTreeSet ℕ) (from : ℕ
       (found : read_at s.reads first.id ≡ Some (record { request = first; stage = Polled }))
       (fresh : contains nat_cmp before first.id ≡ false)
       (least : (q : ℕ) → from ≤ q → q < first.id → polled_at s.reads q ≡ true → contains nat_cmp before q ≡ true)
-      (merges : Merges s.window s.alignment (free_at s.reads before) first.id span)
+      (merges : Merges s.distance s.limit s.alignment (free_at s.reads before) first.id span)
       (numbers : (q : ℕ) → contains nat_cmp before' q ≡ (contains nat_cmp before q || is_listed span.reads q)) where
     -- polled reads before the next are taken
     sooner : (q : ℕ) → q < first.id → polled_at s.reads q ≡ true → contains nat_cmp before q ≡ true
@@ -147,7 +148,7 @@ module _ (s : Scheduler) (spans : List Span) (before : BTreeSet ℕ) (from : ℕ
     merges-now = record {
       next = first.id;
       is_next = is-next;
-      merges = rw (f.window, f.alignment) (merges-along s.window s.alignment (free_at s.reads before) (waiting_at (all_taken s spans).reads) first.id span free-waits merges);
+      merges = rw (f.distance, f.limit, f.alignment) (merges-along s.distance s.limit s.alignment (free_at s.reads before) (waiting_at (all_taken s spans).reads) first.id span free-waits merges);
     }
 
     -- with one more span
@@ -157,7 +158,8 @@ module _ (s : Scheduler) (spans : List Span) (before : BTreeSet ℕ) (from : ℕ
       others = λ q h. others q (or-false (contains nat_cmp before q) (is_listed span.reads q) (sym (numbers q) ∙ h));
       gone = λ q h. gone q (is_listed span.reads q) refl (contains nat_cmp before q) refl (sym (numbers q) ∙ h);
       past = λ q l p. numbers q ∙ or-true (contains nat_cmp before q) (is_listed span.reads q) (sooner q l p);
-      window = ap (λ (t : Scheduler). t.window) (all_taken-push s spans span) ∙ f.window;
+      distance = ap (λ (t : Scheduler). t.distance) (all_taken-push s spans span) ∙ f.distance;
+      limit = ap (λ (t : Scheduler). t.limit) (all_taken-push s spans span) ∙ f.limit;
       alignment = ap (λ (t : Scheduler). t.alignment) (all_taken-push s spans span) ∙ f.alignment;
     }
       where

@@ -12,7 +12,6 @@ use Rattle.std.specs.Ordering.{nat_cmp, match_ordering}
 use Rattle.std.specs.declared.cmp.Ordering.{Ordering}
 use Rattle.std.specs.declared.cmp.Ordering.TheVariants.{Less, Equal, Greater}
 use Rattle.vx_base.specs.Aligned.{align_down}
-use Rattle.vx_base.specs.declared.segment.CoalesceConfig.{CoalesceConfig}
 use Rattle.vx_sched.specs.Span.{Span, end_of}
 use Rattle.vx_sched.specs.Reads.{Reads, read_at, waiting_at, if_waiting, is_waiting, after, with_stage, change_found, changed, all_changed}
 use Rattle.vx_sched.specs.Places.{stays_waiting}
@@ -39,20 +38,20 @@ gaps-uncovered d reach (r ∷ rest) g =
 down-near : (k n : ℕ) → 0 < k → n - (n - n % k) ≤ k - 1
 down-near k n pos = omega (arith, mod-lt n pos)
 
-uncovered-range : (window : CoalesceConfig) (alignment : ℕ) (reads : List ReadRequest) → HasNoWideGap window.distance reads
-    → uncovered (span_of (Some window) alignment reads) ≤ (length reads - 1) * window.distance + (2 ^ alignment - 1)
-uncovered-range window alignment [] g = omega arith
-uncovered-range window alignment (r ∷ rest) g =
+uncovered-range : (distance alignment : ℕ) (reads : List ReadRequest) → HasNoWideGap distance reads
+    → uncovered (span_of (Some distance) alignment reads) ≤ (length reads - 1) * distance + (2 ^ alignment - 1)
+uncovered-range distance alignment [] g = omega arith
+uncovered-range distance alignment (r ∷ rest) g =
     let reach : max (align_down alignment r.offset) (end_of r) ≡ end_of r = omega arith in
-    let gaps = gaps-uncovered window.distance (end_of r) rest g in
+    let gaps = gaps-uncovered distance (end_of r) rest g in
     let near = down-near (2 ^ alignment) r.offset (pow_pos alignment) in
     let less : suc (length rest) - 1 ≡ length rest = omega arith in
     rw (reach, less) (omega (arith, gaps, near))
 
-pub uncovered-merges : (window : CoalesceConfig) (alignment next : ℕ) (waiting : ℕ → Option ReadRequest) (span : Span) → Merges (Some window) alignment waiting next span
-    → uncovered span ≤ (length span.reads - 1) * window.distance + (2 ^ alignment - 1)
-uncovered-merges window alignment next waiting span m =
-    subst (λ (n : ℕ). n ≤ (length span.reads - 1) * window.distance + (2 ^ alignment - 1)) (sym (ap uncovered m.range)) (uncovered-range window alignment span.reads m.gathers.gaps)
+pub uncovered-merges : (distance : ℕ) (limit : Option ℕ) (alignment next : ℕ) (waiting : ℕ → Option ReadRequest) (span : Span) → Merges (Some distance) limit alignment waiting next span
+    → uncovered span ≤ (length span.reads - 1) * distance + (2 ^ alignment - 1)
+uncovered-merges distance limit alignment next waiting span m =
+    subst (λ (n : ℕ). n ≤ (length span.reads - 1) * distance + (2 ^ alignment - 1)) (sym (ap uncovered m.range)) (uncovered-range distance alignment span.reads m.gathers.gaps)
 
 -- ---- each number stands once
 

@@ -10,7 +10,6 @@ use Rattle.std.specs.List.Sorted.{IsStrictlySortedBy}
 use Rattle.std.specs.Map.{keys_of}
 use Rattle.std.specs.BTreeMap.{is_at}
 use Rattle.std.specs.Ordering.{nat_cmp}
-use Rattle.vx_base.specs.declared.segment.CoalesceConfig.{CoalesceConfig}
 use Rattle.vx_sched.specs.Span.{Span}
 use Rattle.vx_sched.specs.Reads.{Reads, read_at, waiting_at, if_waiting, after, with_stage, change_found, changed, all_changed}
 use Rattle.vx_sched.specs.Merging.{is_listed, first_number}
@@ -353,12 +352,12 @@ fits-run (event.Resolve span ∷ rest) s h l f =
 
 -- ---- the law
 
-pub keeps : (window : Option CoalesceConfig) (alignment concurrency : ℕ) (events : List Event) → IsLegal (idle window alignment concurrency) events → Keeps (idle window alignment concurrency) events
-keeps window alignment concurrency events l =
-    let sound : Sound (idle window alignment concurrency) = record { sorted = sorted-nil; below = λ q b. refl } in
+pub keeps : (distance limit : Option ℕ) (alignment concurrency : ℕ) (events : List Event) → IsLegal (idle distance limit alignment concurrency) events → Keeps (idle distance limit alignment concurrency) events
+keeps distance limit alignment concurrency events l =
+    let sound : Sound (idle distance limit alignment concurrency) = record { sorted = sorted-nil; below = λ q b. refl } in
     record {
-      once = (sound-run events (idle window alignment concurrency) sound l).sorted;
-      kept = λ q a d. there-is (read_at (replay (idle window alignment concurrency) events).reads q) (kept-law events (idle window alignment concurrency) q a d);
-      taken = λ q. times-once events (idle window alignment concurrency) q sound l;
-      fits = fits-run events (idle window alignment concurrency) sound l (omega arith);
+      once = (sound-run events (idle distance limit alignment concurrency) sound l).sorted;
+      kept = λ q a d. there-is (read_at (replay (idle distance limit alignment concurrency) events).reads q) (kept-law events (idle distance limit alignment concurrency) q a d);
+      taken = λ q. times-once events (idle distance limit alignment concurrency) q sound l;
+      fits = fits-run events (idle distance limit alignment concurrency) sound l (omega arith);
     }

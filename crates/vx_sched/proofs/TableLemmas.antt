@@ -1,5 +1,5 @@
 -- A table of reads and places, after a change.
-use Rattle.std.proofs.Common.{◌≡◌, ℕ, ◌≤◌, ◌||◌, List, [], ◌∷◌, map, ◌<◌, ◌^◌, ◌==◌, ◌&&◌, not, Bool, true, false, cond, Option, Some, None, option_map, refl, ap, sym, ◌∙◌, arith, subst, unwrap_or}
+use Rattle.std.proofs.Common.{◌≡◌, ℕ, ◌≤◌, ◌||◌, List, [], ◌∷◌, map, max, ◌+◌, ◌-◌, ◌<◌, ◌^◌, ◌==◌, ◌&&◌, not, Bool, true, false, cond, Option, Some, None, option_map, refl, ap, sym, ◌∙◌, arith, subst, unwrap_or}
 use Rattle.std.proofs.lemmas.Bool.Decides.{nat_tests}
 use Rattle.std.specs.List.{list_any, filter}
 use Rattle.std.specs.BTreeMap.{is_at}
@@ -79,7 +79,7 @@ put-keeps : (P : ℕ → ReadRequest → Type 0) (q : ℕ) (r : ReadRequest) (st
 put-keeps P q r stage old y true here there h = subst (P q) (sym (put-request r stage y h)) (here refl)
 put-keeps P q r stage old y false here there h = there y h
 
-module _ (reads reads' : Reads) (places places' : BTreeSet (ℕ × ℕ)) (x : Read) (stage : Option Stage) (t : IsTable reads places)
+module _ (reads reads' : Reads) (places places' : BTreeSet (ℕ × ℕ)) (longest : ℕ) (x : Read) (stage : Option Stage) (t : IsTable reads places longest)
     (found : read_at reads x.request.id ≡ Some x) (waits : is_waiting x.stage ≡ false → stays_waiting stage ≡ false)
     (lookups : (q : ℕ) → read_at reads' q ≡ cond (is_at (nat_cmp x.request.id) q) (option_map (λ s. record { request = x.request; stage = s }) stage) (read_at reads q))
     (placed : (k : ℕ × ℕ) → contains place_cmp places' k ≡ cond ((is_waiting x.stage && not (stays_waiting stage)) && is_at (place_cmp (x.request.offset, x.request.id)) k) false (contains place_cmp places k)) where
@@ -107,11 +107,12 @@ module _ (reads reads' : Reads) (places places' : BTreeSet (ℕ × ℕ)) (x : Re
       ∙ sym (ap (waits_at o) (found-at q ∙ ap (λ b. cond b (option_map (λ s. record { request = x.request; stage = s }) stage) (read_at reads q)) e))
 
   -- a table stays one where a read in it changes its stage or goes
-  pub changed-table : IsTable reads' places'
+  pub changed-table : IsTable reads' places' longest
   changed-table = record {
     tied = λ o q. tied-at o q (x.request.id == q) refl;
     keyed = λ q y h. put-keeps (λ n r. r.id ≡ n) q x.request stage (read_at reads q) y (x.request.id == q) (λ e. grind (arith, nat_tests)) (t.keyed q) (sym (found-at q) ∙ h);
     small = λ q y h. put-keeps (λ n r. n < 2 ^ 64) q x.request stage (read_at reads q) y (x.request.id == q) (λ e. let s = t.small x.request.id x found in grind (arith, nat_tests)) (t.small q) (sym (found-at q) ∙ h);
+    long = λ q y h. put-keeps (λ n r. r.length ≤ longest) q x.request stage (read_at reads q) y (x.request.id == q) (λ _. t.long x.request.id x found) (t.long q) (sym (found-at q) ∙ h);
     fits = λ q y h. put-keeps (λ n r. end_of r < 2 ^ 64) q x.request stage (read_at reads q) y (x.request.id == q) (λ _. t.fits x.request.id x found) (t.fits q) (sym (found-at q) ∙ h);
   }
 
@@ -130,20 +131,21 @@ placed-back s p k mid new absent put taken = back (is_at (place_cmp p) k) refl
     back false e = taken ∙ ap (λ c. cond c false mid) e ∙ put ∙ ap (λ c. cond c true (contains place_cmp s k)) e
 
 -- a table whose entries and places are the same
-pub same-table : (reads reads' : Reads) (places places' : BTreeSet (ℕ × ℕ)) → IsTable reads places → reads' ≡ reads
-    → ((k : ℕ × ℕ) → contains place_cmp places' k ≡ contains place_cmp places k) → IsTable reads' places'
-same-table reads reads' places places' t e same = rw e (record {
+pub same-table : (reads reads' : Reads) (places places' : BTreeSet (ℕ × ℕ)) (longest : ℕ) → IsTable reads places longest → reads' ≡ reads
+    → ((k : ℕ × ℕ) → contains place_cmp places' k ≡ contains place_cmp places k) → IsTable reads' places' longest
+same-table reads reads' places places' longest t e same = rw e (record {
   tied = λ o q. same (o, q) ∙ t.tied o q;
   keyed = t.keyed;
   small = t.small;
+  long = t.long;
   fits = t.fits;
 })
 
 -- nothing waits at the place of a new read
-pub fresh-place : (reads : Reads) (places : BTreeSet (ℕ × ℕ)) (r : ReadRequest) → IsTable reads places → read_at reads r.id ≡ None → contains place_cmp places (r.offset, r.id) ≡ false
-fresh-place reads places r t fresh = t.tied r.offset r.id ∙ ap (waits_at r.offset) fresh
+pub fresh-place : (reads : Reads) (places : BTreeSet (ℕ × ℕ)) (longest : ℕ) (r : ReadRequest) → IsTable reads places longest → read_at reads r.id ≡ None → contains place_cmp places (r.offset, r.id) ≡ false
+fresh-place reads places longest r t fresh = t.tied r.offset r.id ∙ ap (waits_at r.offset) fresh
 
-module _ (reads reads' : Reads) (places places' : BTreeSet (ℕ × ℕ)) (r : ReadRequest) (t : IsTable reads places)
+module _ (reads reads' : Reads) (places places' : BTreeSet (ℕ × ℕ)) (longest : ℕ) (r : ReadRequest) (t : IsTable reads places longest)
     (fresh : read_at reads r.id ≡ None) (number : r.id < 2 ^ 64) (ends : end_of r < 2 ^ 64)
     (lookups : (q : ℕ) → read_at reads' q ≡ cond (is_at (nat_cmp r.id) q) (Some (record { request = r; stage = Registered })) (read_at reads q))
     (placed : (k : ℕ × ℕ) → contains place_cmp places' k ≡ cond (is_at (place_cmp (r.offset, r.id)) k) true (contains place_cmp places k)) where
@@ -175,12 +177,16 @@ module _ (reads reads' : Reads) (places places' : BTreeSet (ℕ × ℕ)) (r : Re
       ∙ t.tied o q
       ∙ sym (ap (waits_at o) (added-at q ∙ ap (λ b. cond b (Some (record { request = r; stage = Registered })) (read_at reads q)) e))
 
+  le-max : {m : ℕ} → m ≤ longest → m ≤ max longest r.length
+  le-max h = omega arith
+
   -- a table with a new read is a table
-  pub added-table : IsTable reads' places'
+  pub added-table : IsTable reads' places' (max longest r.length)
   added-table = record {
     tied = λ o q. added-tied o q (r.id == q) refl;
     keyed = λ q y h. put-keeps (λ n s. s.id ≡ n) q r (Some Registered) (read_at reads q) y (r.id == q) (λ e. grind (arith, nat_tests)) (t.keyed q) (sym (added-at q) ∙ h);
     small = λ q y h. put-keeps (λ n s. n < 2 ^ 64) q r (Some Registered) (read_at reads q) y (r.id == q) (λ e. grind (arith, nat_tests)) (t.small q) (sym (added-at q) ∙ h);
+    long = λ q y h. put-keeps (λ n s. s.length ≤ max longest r.length) q r (Some Registered) (read_at reads q) y (r.id == q) (λ _. omega arith) (λ z k. le-max (t.long q z k)) (sym (added-at q) ∙ h);
     fits = λ q y h. put-keeps (λ n s. end_of s < 2 ^ 64) q r (Some Registered) (read_at reads q) y (r.id == q) (λ _. ends) (t.fits q) (sym (added-at q) ∙ h);
   }
 
@@ -214,8 +220,8 @@ near-listed p o q inside (k ∷ ks) h = at (is_at (place_cmp (o, q)) k) refl h (
     at false e h step = skip (p k) (step h)
 
 -- a waiting read has its place
-pub waiting-placed : (reads : Reads) (places : BTreeSet (ℕ × ℕ)) → IsTable reads places → (id : ℕ) (r : ReadRequest) → waiting_at reads id ≡ Some r → contains place_cmp places (r.offset, id) ≡ true
-waiting-placed reads places t id r h = t.tied r.offset id ∙ at (read_at reads id) h
+pub waiting-placed : (reads : Reads) (places : BTreeSet (ℕ × ℕ)) (longest : ℕ) → IsTable reads places longest → (id : ℕ) (r : ReadRequest) → waiting_at reads id ≡ Some r → contains place_cmp places (r.offset, id) ≡ true
+waiting-placed reads places longest t id r h = t.tied r.offset id ∙ at (read_at reads id) h
   where
     at : (x : Option Read) → if_waiting x ≡ Some r → waits_at r.offset x ≡ true
     at None h = cc
@@ -228,21 +234,45 @@ waiting-placed reads places t id r h = t.tied r.offset id ∙ at (read_at reads 
         stage false h = cc
 
 -- a waiting read has a number in range
-waiting-small : (reads : Reads) (places : BTreeSet (ℕ × ℕ)) → IsTable reads places → (id : ℕ) (r : ReadRequest) → waiting_at reads id ≡ Some r → id < 2 ^ 64
-waiting-small reads places t id r h = at (read_at reads id) refl h
+waiting-small : (reads : Reads) (places : BTreeSet (ℕ × ℕ)) (longest : ℕ) → IsTable reads places longest → (id : ℕ) (r : ReadRequest) → waiting_at reads id ≡ Some r → id < 2 ^ 64
+waiting-small reads places longest t id r h = at (read_at reads id) refl h
   where
     at : (x : Option Read) → read_at reads id ≡ x → if_waiting x ≡ Some r → id < 2 ^ 64
     at None e h = cc
     at (Some x) e h = t.small id x e
 
+-- a waiting read is no longer than the longest
+waiting-long : (reads : Reads) (places : BTreeSet (ℕ × ℕ)) (longest : ℕ) → IsTable reads places longest → (id : ℕ) (r : ReadRequest) → waiting_at reads id ≡ Some r → r.length ≤ longest
+waiting-long reads places longest t id r h = at (read_at reads id) refl h
+  where
+    at : (x : Option Read) → read_at reads id ≡ x → if_waiting x ≡ Some r → r.length ≤ longest
+    at None e h = cc
+    at (Some x) e h = stage (is_waiting x.stage) h
+      where
+        stage : (b : Bool) → cond b (Some x.request) None ≡ Some r → r.length ≤ longest
+        stage true k =
+            let same : x.request.length ≡ r.length = ap (λ (o : Option ReadRequest). unwrap_or (option_map (λ s. s.length) o) 0) k in
+            subst (λ n. n ≤ longest) same (t.long id x e)
+        stage false k = cc
+
 -- the numbers of the waiting reads near a range
-pub near-complete : (reads : Reads) (places : BTreeSet (ℕ × ℕ)) (left right : ℕ) (ids : List ℕ) → IsTable reads places
-    → ids ≡ map (λ (k : ℕ × ℕ). k.1) (keys_between place_cmp (Included (left, 0)) (Included (right, 18446744073709551615)) places)
-    → (id : ℕ) (r : ReadRequest) → waiting_at reads id ≡ Some r → left ≤ r.offset → r.offset ≤ right → list_any (λ n. n == id) ids ≡ true
-near-complete reads places left right ids t e id r h l u =
-    let small = waiting-small reads places t id r h in
-    let inside : range_contains place_cmp (Included (left, 0)) (Included (right, 18446744073709551615)) (r.offset, id) ≡ true = grind (arith, nat_tests) in
-    rw e (near-listed (range_contains place_cmp (Included (left, 0)) (Included (right, 18446744073709551615))) r.offset id inside places.keys (waiting-placed reads places t id r h))
+pub near-complete : (reads : Reads) (places : BTreeSet (ℕ × ℕ)) (longest left from right first : ℕ) (ids : List ℕ) → IsTable reads places longest
+    → first ≡ max from (left - longest)
+    → ids ≡ map (λ (k : ℕ × ℕ). k.1) (keys_between place_cmp (Included (first, 0)) (Included (right, 18446744073709551615)) places)
+    → (id : ℕ) (r : ReadRequest) → waiting_at reads id ≡ Some r → left ≤ end_of r → from ≤ r.offset → r.offset ≤ right → list_any (λ n. n == id) ids ≡ true
+near-complete reads places longest left from right first ids t f e id r h l o u =
+    let small = waiting-small reads places longest t id r h in
+    let long = waiting-long reads places longest t id r h in
+    let begins : first ≤ r.offset = omega arith in
+    let inside : range_contains place_cmp (Included (first, 0)) (Included (right, 18446744073709551615)) (r.offset, id) ≡ true = grind (arith, nat_tests) in
+    rw e (near-listed (range_contains place_cmp (Included (first, 0)) (Included (right, 18446744073709551615))) r.offset id inside places.keys (waiting-placed reads places longest t id r h))
+
+-- no waiting read lies where there is no room
+pub near-none : (reads : Reads) (places : BTreeSet (ℕ × ℕ)) (longest left from right first : ℕ) → IsTable reads places longest → first ≡ max from (left - longest) → right < first
+    → (id : ℕ) (r : ReadRequest) → waiting_at reads id ≡ Some r → left ≤ end_of r → from ≤ r.offset → r.offset ≤ right → list_any (λ n. n == id) [] ≡ true
+near-none reads places longest left from right first t f past id r h l o u =
+    let long = waiting-long reads places longest t id r h in
+    absurd (omega arith)
 
 -- no change but a poll polls a read
 after-polled : (c : Change) (stage : Stage) → is_poll c ≡ false → is_polled stage ≡ false → (t : Stage) → after c stage ≡ Some t → is_polled t ≡ false

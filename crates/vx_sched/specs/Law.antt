@@ -4,7 +4,6 @@ use Rattle.std.specs.List.{list_any}
 use Rattle.std.specs.List.Sorted.{IsStrictlySortedBy}
 use Rattle.std.specs.Map.{keys_of}
 use Rattle.std.specs.Ordering.{nat_cmp}
-use Rattle.vx_base.specs.declared.segment.CoalesceConfig.{CoalesceConfig}
 use Rattle.vx_sched.specs.Span.{Span, end_of}
 use Rattle.vx_sched.specs.Reads.{read_at}
 use Rattle.vx_sched.specs.Merging.{is_listed}
@@ -14,8 +13,8 @@ use Rattle.vx_sched.specs.declared.event.Event.{Event}
 use Rattle.vx_sched.specs.declared.event.Event.TheVariants.{Request, Polled, Dropped, Take, Resolve}
 
 -- a scheduler without reads
-abbrev pub idle : Option CoalesceConfig → ℕ → ℕ → Scheduler
-idle window alignment concurrency = record { window = window; alignment = alignment; concurrency = concurrency; reads = []; next = 0 }
+abbrev pub idle : Option ℕ → Option ℕ → ℕ → ℕ → Scheduler
+idle distance limit alignment concurrency = record { distance = distance; limit = limit; alignment = alignment; concurrency = concurrency; reads = []; next = 0 }
 
 -- whether an event asks for a read of a number
 abbrev pub requests : ℕ → Event → Bool

@@ -1,5 +1,5 @@
 -- The places of waiting reads: their offsets and numbers.
-use Rattle.std.specs.Prelude.{◌≡◌, ℕ, ◌<◌, ◌^◌, ◌==◌, ◌&&◌, Bool, false, Option, Some, None}
+use Rattle.std.specs.Prelude.{◌≡◌, ℕ, ◌<◌, ◌≤◌, ◌^◌, ◌==◌, ◌&&◌, Bool, false, Option, Some, None}
 use Rattle.std.specs.BTreeSet.{BTreeSet, contains}
 use Rattle.std.specs.Ordering.{nat_cmp, ordering_then}
 use Rattle.std.specs.declared.cmp.Ordering.{Ordering}
@@ -23,11 +23,12 @@ abbrev pub stays_waiting : Option Stage → Bool
 stays_waiting None = false
 stays_waiting (Some stage) = is_waiting stage
 
--- reads and the places of those that wait
-pub record IsTable (reads : Reads) (places : BTreeSet (ℕ × ℕ)) : Type 0 where
+-- reads, the places of those that wait, and a length that none passes
+pub record IsTable (reads : Reads) (places : BTreeSet (ℕ × ℕ)) (longest : ℕ) : Type 0 where
   pub tied : (offset id : ℕ) → contains place_cmp places (offset, id) ≡ waits_at offset (read_at reads id)
   pub keyed : (id : ℕ) (x : Read) → read_at reads id ≡ Some x → x.request.id ≡ id
   pub small : (id : ℕ) (x : Read) → read_at reads id ≡ Some x → id < 2 ^ 64
+  pub long : (id : ℕ) (x : Read) → read_at reads id ≡ Some x → x.request.length ≤ longest
   pub fits : (id : ℕ) (x : Read) → read_at reads id ≡ Some x → end_of x.request < 2 ^ 64
 
 -- each waiting read ends in range

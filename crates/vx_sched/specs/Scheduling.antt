@@ -4,7 +4,6 @@ use Rattle.std.specs.List.{list_all}
 use Rattle.std.specs.Map.{values_of}
 use Rattle.std.specs.BTreeMap.{insert_entry}
 use Rattle.std.specs.Ordering.{nat_cmp}
-use Rattle.vx_base.specs.declared.segment.CoalesceConfig.{CoalesceConfig}
 use Rattle.vx_sched.specs.Span.{Span, end_of}
 use Rattle.vx_sched.specs.Reads.{Reads, read_at, waiting_at, is_polled, changed, all_changed}
 use Rattle.vx_sched.specs.Merging.{Merges, span_of, first_number, is_in_order}
@@ -18,10 +17,11 @@ use Rattle.vx_sched.specs.declared.event.ReadEvent.TheVariants as asked
 use Rattle.vx_sched.specs.declared.event.Event.{Event}
 use Rattle.vx_sched.specs.declared.event.Event.TheVariants as happens
 
--- settings, the reads by number, and the least number that a new read may have. The window's
--- `max_size` is the limit with room for alignment
+-- settings, the reads by number, and the least number that a new read may have. The limit has room
+-- for alignment
 pub record Scheduler : Type 0 where
-  pub window : Option CoalesceConfig
+  pub distance : Option ℕ
+  pub limit : Option ℕ
   pub alignment : ℕ
   pub concurrency : ℕ
   pub reads : Reads
@@ -77,7 +77,7 @@ resolved s span = record s { reads = all_changed ResolveIt s.reads span.reads }
 pub record MergesNow (s : Scheduler) (span : Span) : Type 0 where
   pub next : ℕ
   pub is_next : IsNext s.reads next
-  pub merges : Merges s.window s.alignment (waiting_at s.reads) next span
+  pub merges : Merges s.distance s.limit s.alignment (waiting_at s.reads) next span
 
 -- each span merges from what the earlier ones leave
 abbrev pub MergesInTurn : Scheduler → List Span → Type 0
@@ -124,7 +124,7 @@ has_first (_ ∷ _) = true
 abbrev pub in_flight : Scheduler → Span → Bool
 in_flight s span = has_first span.reads && is_in_order span.reads
     && list_all (λ r. is_flying (first_number span.reads) (length span.reads) r (read_at s.reads r.id)) span.reads
-    && same_span span (span_of s.window s.alignment span.reads)
+    && same_span span (span_of s.distance s.alignment span.reads)
 
 -- what a caller may do
 abbrev pub MayHappen : Scheduler → ReadEvent → Type 0

@@ -6,7 +6,6 @@ use crate::{CoalescedRequest, ReadEvent, ReadRequest, State};
 use std::alloc::{AllocError, Global};
 use std::process::Abort;
 use std::test::Fail;
-use vx_base::CoalesceConfig;
 
 // A linear congruential generator, so that each run makes the same lists.
 #[derive(Clone, Copy)]
@@ -49,7 +48,7 @@ struct Listed {
 #[derive(Clone, Copy)]
 struct Rules {
     distance: u64,
-    limit: u64,
+    limit: Option<u64>,
     exponent: u8,
 }
 
@@ -66,7 +65,10 @@ impl Rules {
 
     // Whether a range fits the limit.
     fn fits(&self, low: u64, high: u64) -> bool {
-        high.saturating_sub(self.start_of(low)) <= self.limit
+        match self.limit {
+            Some(limit) => high.saturating_sub(self.start_of(low)) <= limit,
+            None => true,
+        }
     }
 
     // Whether each read but the first begins at most the distance past the greatest end before it.
@@ -87,7 +89,7 @@ impl Rules {
         let high = greatest_end(chosen);
         for read in left {
             let offset = read.request.offset;
-            let is_near = low <= offset.saturating_add(self.distance)
+            let is_near = low <= read.end.saturating_add(self.distance)
                 && offset <= high.saturating_add(self.distance);
             if is_near && self.fits(low.min(offset), high.max(read.end)) {
                 return false;
@@ -216,7 +218,7 @@ fn pass_over(
     let right = high.saturating_add(rules.distance);
     for read in waiting {
         let offset = read.request.offset;
-        let is_near = left <= offset && offset <= right;
+        let is_near = left <= read.end && offset <= right;
         let is_new = !has_number(picked.as_slice(), read.request.id);
         if is_near && is_new && rules.fits(low.min(offset), high.max(read.end)) {
             picked.push(*read)?;
@@ -376,16 +378,26 @@ fn compare_all(
 
 // Makes a list of reads, and compares the spans of its batch. Gives how many there are.
 fn compare(rt: &impl Abort, alloc: Global, generator: &mut Generator) -> Result<usize, Fail> {
-    let distance = generator.below(7);
-    let max_size = generator.below(31);
+    let distance = match generator.below(8) {
+        0 => 100,
+        gap => gap - 1,
+    };
+    let size = generator.below(31);
+    let max_read_size = match generator.below(4) {
+        0 => None,
+        _ => Some(size),
+    };
     let exponent = generator.exponent();
+    let limit = match max_read_size {
+        Some(size) => Some(size.saturating_add(room_of(exponent))),
+        None => None,
+    };
     let rules = Rules {
         distance,
-        limit: max_size.saturating_add(room_of(exponent)),
+        limit,
         exponent,
     };
-    let window = CoalesceConfig { distance, max_size };
-    let mut state = State::new(alloc, Some(window), aligned(exponent), 4);
+    let mut state = State::new(alloc, Some(distance), max_read_size, aligned(exponent), 4);
     let all = fill(rt, alloc, &mut state, generator)?;
     let spans = state.batch(alloc, 8)?;
     compare_all(rt, alloc, &rules, spans.as_slice(), all.as_slice())?;

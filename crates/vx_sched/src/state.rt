@@ -9,18 +9,20 @@ ghost use Rattle.vx_sched.specs.Scheduling.{MayHappen, polled_at, stepped, takes
 
 use crate::batching::{add_numbers, gathered, lone};
 use crate::flying::{all_fly, greatest_end_of, is_ordered};
+use crate::gather::Rules;
 use crate::read::Change;
 use crate::table::Table;
 use crate::{CoalescedRequest, Counts, ReadEvent, ReadRequest};
 use std::alloc::{AllocError, Global};
 use std::collections::BTreeSet;
 use std::marker::Model;
-use vx_base::{Alignment, CoalesceConfig};
+use vx_base::Alignment;
 
 /// Reads that are registered, polled, in flight and resolved, and how they are gathered.
 #[derive(Drop)]
 pub struct State {
-    gathering: Option<CoalesceConfig>,
+    gap: Option<u64>,
+    longest: Option<u64>,
     aligned: Alignment,
     most: usize,
     table: Table,
@@ -38,7 +40,7 @@ impl Model for State {
 
     ghost Value = { Scheduler };
 
-    ghost view = { λ s. record { window = s.gathering; alignment = s.aligned; concurrency = s.most; reads = s.table; next = option_map_or (λ n. n + 1) s.last 0 } };
+    ghost view = { λ s. record { distance = s.gap; limit = s.longest; alignment = s.aligned; concurrency = s.most; reads = s.table; next = option_map_or (λ n. n + 1) s.last 0 } };
 
     ghost invariant = { λ s. (1 ≤ s.most) × ((q : ℕ) → option_map_or (λ n. n + 1) s.last 0 ≤ q → read_at s.table q ≡ None) × NonePolledBelow s.table s.from };
 }
@@ -66,16 +68,19 @@ fn least_of(reads: &[ReadRequest]) -> u64
 }
 
 impl State {
-    /// A scheduler without reads. The window's limit gets room for the start to be aligned down.
+    /// A scheduler without reads. Without a distance reads are not gathered, and without a greatest size
+    /// spans have no limit. The limit gets room for the start to be aligned down.
     pub fn new(
         alloc: Global,
-        window: Option<CoalesceConfig>,
+        distance: Option<u64>,
+        max_read_size: Option<u64>,
         alignment: Alignment,
         concurrency: usize,
     ) -> State
         requires { 1 ≤ concurrency }
         ensures { result ≡ record {
-          window = option_map (raised alignment) window;
+          distance = distance;
+          limit = option_map (raised alignment) max_read_size;
           alignment = alignment;
           concurrency = concurrency;
           reads = [];
@@ -83,7 +88,8 @@ impl State {
         } }
     {
         State {
-            gathering: raise(window, alignment),
+            gap: distance,
+            longest: raise(max_read_size, alignment),
             aligned: alignment,
             most: concurrency,
             table: Table::new(alloc),
@@ -123,12 +129,18 @@ impl State {
     ) -> Result<CoalescedRequest, AllocError>
         requires free { free_at self.now.reads before.now first.id ≡ Some first }
         requires fits { end_of first < 2 ^ 64 }
-        ensures { IfOk result (λ span. Merges self.now.window self.now.alignment (free_at self.now.reads before.now) first.id span) }
+        ensures { IfOk result (λ span. Merges self.now.distance self.now.limit self.now.alignment
+            (free_at self.now.reads before.now) first.id span) }
     {
-        match self.gathering {
-            None => lone(alloc, first),
-            Some(window) => gathered(alloc, &self.table, before, window, self.aligned, first),
-        }
+        let Some(distance) = self.gap else {
+            return lone(alloc, first);
+        };
+        let rules = Rules {
+            distance,
+            limit: self.longest,
+            alignment: self.aligned,
+        };
+        gathered(alloc, &self.table, before, &rules, first)
     }
 
     /// The spans that are to be asked next, at most so many, each of which merges from what the
@@ -230,13 +242,13 @@ impl State {
     /// Whether a span with reads has the range and the alignment that the settings give its reads.
     fn has_range(&self, range: &CoalescedRequest) -> bool
         requires { 1 ≤ length range.now.reads }
-        ensures { result ≡ same_span range.now (span_of self.now.window self.now.alignment range.now.reads) }
+        ensures { result ≡ same_span range.now (span_of self.now.distance self.now.alignment range.now.reads) }
     {
         let reads = range.requests();
         let place = range.range();
         let exponent = range.alignment().exponent();
         let first = reads[0];
-        match self.gathering {
+        match self.gap {
             None => {
                 place.start == first.offset
                     && place.end == first.offset + first.length as u64
@@ -258,15 +270,12 @@ impl State {
     }
 }
 
-/// The window with room for the start to be aligned down.
-fn raise(window: Option<CoalesceConfig>, alignment: Alignment) -> Option<CoalesceConfig>
-    ensures { result ≡ option_map (raised alignment) window }
+/// The limit of a greatest size, with room for the start to be aligned down.
+fn raise(max_read_size: Option<u64>, alignment: Alignment) -> Option<u64>
+    ensures { result ≡ option_map (raised alignment) max_read_size }
 {
-    match window {
+    match max_read_size {
         None => None,
-        Some(window) => Some(CoalesceConfig {
-            distance: window.distance,
-            max_size: window.max_size.saturating_add(alignment.as_u64() - 1),
-        }),
+        Some(size) => Some(size.saturating_add(alignment.as_u64() - 1)),
     }
 }

@@ -24,6 +24,8 @@ use std::marker::Model;
 pub struct Table {
     reads: BTreeMap<u64, Read>,
     places: BTreeSet<(u64, u64)>,
+    /// No read is longer than this.
+    longest: u64,
 }
 
 impl Model for Table {
@@ -34,7 +36,7 @@ impl Model for Table {
 
     ghost view = { λ t. t.reads.entries };
 
-    ghost invariant = { λ t. IsTable t.reads.entries t.places };
+    ghost invariant = { λ t. IsTable t.reads.entries t.places t.longest };
 }
 
 /// Adds a read and its place, or neither.
@@ -157,6 +159,7 @@ impl Table {
         Table {
             reads: BTreeMap::new(alloc),
             places: BTreeSet::new(alloc),
+            longest: 0,
         }
     }
 
@@ -196,14 +199,24 @@ impl Table {
         }
     }
 
-    /// The numbers of the waiting reads whose offsets lie in bounds, in order. Only memory refuses.
-    pub fn places_near(&self, alloc: Global, left: u64, right: u64) -> Result<Vec<u64>, AllocError>
-        requires { left ≤ right }
+    /// The numbers of waiting reads, those among them that end at `left` or after and begin from `from` to
+    /// `right`, in order. Since no read is longer than the longest, few others are. Only memory refuses.
+    pub fn places_near(
+        &self,
+        alloc: Global,
+        left: u64,
+        from: u64,
+        right: u64,
+    ) -> Result<Vec<u64>, AllocError>
         ensures complete { IfOk result (λ ids. (id : ℕ) (r : ReadRequest) → waiting_at self.now id ≡ Some r →
-            left ≤ r.offset → r.offset ≤ right → list_any (λ n. n == id) ids.items ≡ true) }
+            left ≤ end_of r → from ≤ r.offset → r.offset ≤ right → list_any (λ n. n == id) ids.items ≡ true) }
         ensures fit { AllFit self.now }
     {
-        let ids = numbers_between(alloc, &self.places, left, right)?;
+        let first = from.max(left.saturating_sub(self.longest));
+        if first > right {
+            return Ok(Vec::new(alloc));
+        }
+        let ids = numbers_between(alloc, &self.places, first, right)?;
         Ok(ids)
     }
 
@@ -230,7 +243,10 @@ impl Table {
         ensures idle { OnOk result ((q : ℕ) → polled_at self.old q ≡ false → polled_at self.new q ≡ false) }
         ensures kept { OnErr result (self.new ≡ self.old) }
     {
-        add(&mut self.reads, &mut self.places, request)
+        let longest = self.longest.max(request.length as u64);
+        add(&mut self.reads, &mut self.places, request)?;
+        self.longest = longest;
+        Ok(())
     }
 
     /// Changes the read of a number, if there is one.

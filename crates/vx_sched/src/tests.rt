@@ -8,7 +8,7 @@ use std::alloc::Global;
 use std::process::Abort;
 use std::test::Fail;
 use vx_base::{
-    Alignment, ByteBuffer, CoalesceConfig, FaultKind, MemReader, Mischief, MischiefKind,
+    Alignment, ByteBuffer, FaultKind, MemReader, Mischief, MischiefKind,
     ReadAtRequest,
 };
 
@@ -56,95 +56,97 @@ fn cut_of(
     Ok(span.slice_of(alloc, &buffer, index)?)
 }
 
-fn window(distance: u64, max_size: u64) -> Option<CoalesceConfig> {
-    Some(CoalesceConfig { distance, max_size })
+// Two reads, the first polled, with settings, and the range of the first span.
+#[derive(Clone, Copy)]
+struct Row {
+    distance: Option<u64>,
+    max_read_size: Option<u64>,
+    exponent: u8,
+    polled: (u64, usize),
+    registered: (u64, usize),
+    range: (u64, u64),
 }
 
-// Registers two reads, polls the first, and gives the spans of a batch.
-fn spans_of_two(
-    rt: &impl Abort,
-    alloc: Global,
-    settings: (Option<CoalesceConfig>, Alignment),
-    first: (u64, usize),
-    second: (u64, usize),
-) -> Result<Vec<CoalescedRequest>, Fail> {
-    let mut state = State::new(alloc, settings.0, settings.1, 4);
-    assert!(rt; first.0 < 1000 && first.1 < 1000);
-    assert!(rt; second.0 < 1000 && second.1 < 1000);
+// The row of a distance, a greatest size, reads without alignment, and the range.
+fn at_distance(
+    distance: u64,
+    max_read_size: Option<u64>,
+    polled: (u64, usize),
+    registered: (u64, usize),
+    range: (u64, u64),
+) -> Row {
+    Row {
+        distance: Some(distance),
+        max_read_size,
+        exponent: 0,
+        polled,
+        registered,
+        range,
+    }
+}
+
+// Whether the first span of a row has its range.
+fn holds(rt: &impl Abort, alloc: Global, row: &Row) -> Result<bool, Fail> {
+    let (first, second) = (row.polled, row.registered);
+    let mut state = State::new(alloc, row.distance, row.max_read_size, aligned(row.exponent), 4);
+    assert!(rt; first.0 < 2000000 && first.1 < 2000000);
+    assert!(rt; second.0 < 2000000 && second.1 < 2000000);
     state.on_event(ReadEvent::Request(read(0, first.0, first.1)))?;
     state.on_event(ReadEvent::Request(read(1, second.0, second.1)))?;
     state.on_event(ReadEvent::Polled(0))?;
-    Ok(state.batch(alloc, 4)?)
+    let spans = state.batch(alloc, 4)?;
+    let range = spans.first().ok_or("no span")?.range();
+    Ok(spans.len() == 1 && range.start == row.range.0 && range.end == row.range.1)
 }
 
 #[test]
-fn a_near_read_is_absorbed_and_a_far_one_waits(rt: HostRuntime) -> Result<(), Fail> {
-    let near = spans_of_two(
-        &rt,
-        rt.alloc(),
-        (window(4, 100), aligned(0)),
-        (0, 10),
-        (14, 6),
-    )?;
-    assert_eq!(rt; near.len(), 1);
-    assert_eq!(rt; near[0].range().start, 0);
-    assert_eq!(rt; near[0].range().end, 20);
-    assert_eq!(rt; near[0].requests().len(), 2);
-    let far = spans_of_two(
-        &rt,
-        rt.alloc(),
-        (window(3, 100), aligned(0)),
-        (0, 10),
-        (14, 6),
-    )?;
-    assert_eq!(rt; far.len(), 1);
-    assert_eq!(rt; far[0].range().end, 10);
-    Ok(())
-}
-
-#[test]
-fn the_limit_has_room_for_alignment(rt: HostRuntime) -> Result<(), Fail> {
-    let fits = spans_of_two(
-        &rt,
-        rt.alloc(),
-        (window(8, 16), aligned(3)),
-        (10, 4),
-        (20, 8),
-    )?;
-    assert_eq!(rt; fits.len(), 1);
-    assert_eq!(rt; fits[0].range().start, 8);
-    assert_eq!(rt; fits[0].range().end, 28);
-    let long = spans_of_two(
-        &rt,
-        rt.alloc(),
-        (window(8, 16), aligned(3)),
-        (10, 4),
-        (20, 12),
-    )?;
-    assert_eq!(rt; long.len(), 1);
-    assert_eq!(rt; long[0].range().start, 8);
-    assert_eq!(rt; long[0].range().end, 14);
-    Ok(())
-}
-
-#[test]
-fn a_read_that_only_ends_near_is_left(rt: HostRuntime) -> Result<(), Fail> {
-    let spans = spans_of_two(
-        &rt,
-        rt.alloc(),
-        (window(50, 1000), aligned(0)),
-        (100, 10),
-        (0, 100),
-    )?;
-    assert_eq!(rt; spans.len(), 1);
-    assert_eq!(rt; spans[0].range().start, 100);
-    assert_eq!(rt; spans[0].range().end, 110);
+fn spans_of_two_reads(rt: HostRuntime) -> Result<(), Fail> {
+    let aligned_fits = Row {
+        distance: Some(8),
+        max_read_size: Some(16),
+        exponent: 3,
+        polled: (10, 4),
+        registered: (20, 8),
+        range: (8, 28),
+    };
+    let aligned_long = Row {
+        distance: Some(8),
+        max_read_size: Some(16),
+        exponent: 3,
+        polled: (10, 4),
+        registered: (20, 12),
+        range: (8, 14),
+    };
+    let exact = Row {
+        distance: None,
+        max_read_size: Some(1),
+        exponent: 3,
+        polled: (10, 4),
+        registered: (14, 4),
+        range: (10, 14),
+    };
+    let rows = vec![in rt.alloc();
+        at_distance(4, Some(100), (0, 10), (14, 6), (0, 20)),
+        at_distance(3, Some(100), (0, 10), (14, 6), (0, 10)),
+        aligned_fits,
+        aligned_long,
+        exact,
+        at_distance(50, Some(1000), (100, 10), (0, 100), (0, 110)),
+        at_distance(50, Some(109), (100, 10), (0, 100), (100, 110)),
+        at_distance(50, None, (100, 10), (0, 49), (100, 110)),
+        at_distance(50, None, (100, 10), (0, 50), (0, 110)),
+        at_distance(u64::MAX, None, (1000000, 10), (0, 4), (0, 1000010)),
+        at_distance(4, Some(5), (0, 10), (14, 6), (0, 10)),
+    ]?;
+    for row in &rows {
+        assert!(rt; holds(&rt, rt.alloc(), row)?);
+    }
     Ok(())
 }
 
 #[test]
 fn a_span_is_taken_resolved_and_gone(rt: HostRuntime) -> Result<(), Fail> {
-    let mut state = State::new(rt.alloc(), None, aligned(0), 2);
+    let mut state = State::new(rt.alloc(), None, None, aligned(0), 2);
     state.on_event(ReadEvent::Request(read(3, 7, 5)))?;
     assert_eq!(rt; state.counts().registered, 1);
     state.on_event(ReadEvent::Polled(3))?;
@@ -198,7 +200,7 @@ fn spans_of_aligned(
     first: ReadRequest,
     second: ReadRequest,
 ) -> Result<Vec<CoalescedRequest>, Fail> {
-    let mut state = State::new(alloc, window(1, 16), aligned(2), 4);
+    let mut state = State::new(alloc, Some(1), Some(16), aligned(2), 4);
     assert!(rt; first.id == 0 && first.offset < 1000 && first.length < 1000);
     assert!(rt; second.id == 1 && second.offset < 1000 && second.length < 1000);
     state.on_event(ReadEvent::Request(first))?;

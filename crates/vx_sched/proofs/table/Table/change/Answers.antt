@@ -8,7 +8,7 @@ use Rattle.vx_sched.proofs.table.Table.change.Goals as goal
 pub invariant_of-self : goal.invariant_of-self
 invariant_of-self c =
     let there : read_at c.self.inside.reads.entries c.args.id ≡ Some c.in-Some.read = rw c.self.view_is (sym c.in-Some.ensures.value) in
-    changed-table c.self.inside.reads.entries c.put.new.reads.entries c.self.inside.places c.leave.new.places c.in-Some.read c.stage_after-stage.result
+    changed-table c.self.inside.reads.entries c.put.new.reads.entries c.self.inside.places c.leave.new.places c.self.inside.longest c.in-Some.read c.stage_after-stage.result
     c.self.invariant
     (subst (λ n. read_at c.self.inside.reads.entries n ≡ Some c.in-Some.read) (sym c.in-Some.ensures.keyed.0) there)
     (λ h. rw c.stage_after-stage.ensures (after-waits c.args.change c.in-Some.read.stage h))
