@@ -1,4 +1,7 @@
+pub mod Chain
 pub mod Counting
+pub mod Entries
+pub mod Flying
 pub mod Insert
 pub mod Io
 pub mod Law

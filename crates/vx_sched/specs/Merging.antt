@@ -107,3 +107,7 @@ pub record Merges (distance limit : Option ℕ) (alignment : ℕ) (waiting : ℕ
 -- the limit of a greatest size, with room for the start to be aligned down
 abbrev pub raised : ℕ → ℕ → ℕ
 raised alignment size = min (size + (2 ^ alignment - 1)) last_count
+
+-- whether two ranges and their alignments are one
+abbrev pub same_span : Span → Span → Bool
+same_span a b = (a.start == b.start) && (a.end == b.end) && (a.alignment == b.alignment)

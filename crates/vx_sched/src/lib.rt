@@ -29,6 +29,7 @@ pub use fault::{Fault, Outcome, Place};
 pub use io_request::IoRequest;
 pub use law::scheduling_law;
 pub use metrics::RequestMetrics;
+pub use read::ReadState;
 pub use request::ReadRequest;
 pub use span::{CoalescedRequest, RangeError};
 pub use state::State;
