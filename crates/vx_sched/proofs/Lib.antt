@@ -16,5 +16,6 @@ pub mod LawRuns
 pub mod BatchLemmas
 pub mod ChainLemmas
 pub mod BelowLemmas
+pub mod CallLemmas
 pub mod NextLemmas
 pub mod AnswerLemmas

@@ -1,3 +1,4 @@
+pub mod Calls
 pub mod Chain
 pub mod Counting
 pub mod Entries
@@ -6,6 +7,7 @@ pub mod Insert
 pub mod Io
 pub mod Law
 pub mod Merging
+pub mod Metrics
 pub mod Outcomes
 pub mod Picks
 pub mod Places

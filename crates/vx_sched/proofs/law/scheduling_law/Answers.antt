@@ -1,7 +1,5 @@
 use Rattle.vx_sched.proofs.LawLemmas.{uncovered-merges}
 use Rattle.vx_sched.proofs.LawRuns.{keeps}
-use Rattle.vx_sched.proofs.ChainLemmas.{resolves}
-use Rattle.vx_sched.proofs.BatchLemmas.{so_far-merge}
 use Rattle.vx_sched.proofs.law.scheduling_law.Goals as goal
 
 pub returns-clause-keeps : goal.returns-clause-keeps

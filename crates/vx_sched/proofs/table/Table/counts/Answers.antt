@@ -2,8 +2,6 @@ use Rattle.std.proofs.Common.{◌∙◌, sym}
 use Rattle.vx_sched.specs.declared.counts.Kind.TheVariants.{IsRegistered, IsPolled, IsFlying, IsResolved}
 use Rattle.vx_sched.specs.declared.read.ReadState.TheVariants as state
 use Rattle.vx_sched.proofs.SeenLemmas.{stands-kept, counts-are, count-seen, counts-registered, counts-polled, counts-flying, counts-resolved, ranges-seen}
-use Rattle.vx_sched.proofs.FlightLemmas.{taken-kept}
-use Rattle.vx_sched.proofs.CountLemmas.{polls-fewer}
 use Rattle.vx_sched.proofs.table.Table.counts.Goals as goal
 
 pub returns : goal.returns
