@@ -8,10 +8,10 @@ use Rattle.std.proofs.lemmas.List.Folds.{find_at}
 use Rattle.std.specs.Option.{option_map}
 use Rattle.std.specs.List.{position_or_len}
 use Rattle.vx_base.specs.Asking.{Log, logged, names, without_first, without_answer, mark_of, mark_of_answer}
-use Rattle.vx_base.specs.Outlines.{outline_of, outlines, mark_of_outline}
+use Rattle.vx_base.specs.Outlines.{outline_of, mark_of_outline}
 use Rattle.vx_base.specs.declared.answer.ReadAtRequest.{ReadAtRequest}
 use Rattle.vx_base.specs.declared.answer.RangeAnswer.{RangeAnswer}
-use Rattle.vx_base.specs.declared.matching.Outline.{Outline}
+use Rattle.vx_base.specs.Buffer.{Buffer}
 
 -- the list without the first that passes is the list with the first place removed
 pub without_first-at : {X : Type 0} (p : X → Bool) (xs : List X) → without_first p xs ≡ take (position_or_len p xs) xs ++ drop (suc (position_or_len p xs)) xs
@@ -70,22 +70,22 @@ without_first-map p f (x ∷ xs) = at (p (f x)) (without_first-map p f xs)
     at false h = ap (λ ys. f x ∷ ys) h
 
 -- the mark of an outline is that of its answer
-pub mark_of_outline-map : (size : ℕ) (found : Option RangeAnswer) → mark_of_outline size (option_map outline_of found) ≡ mark_of_answer size found
+pub mark_of_outline-map : (size : ℕ) (found : Option (RangeAnswer Buffer)) → mark_of_outline size (option_map outline_of found) ≡ mark_of_answer size found
 mark_of_outline-map size None = refl
 mark_of_outline-map size (Some a) = elim (a.result) as (λ r. mark_of_outline size (option_map outline_of (Some (record a { result = r }))) ≡ mark_of_answer size (Some (record a { result = r }))) [ Ok b ↦ refl | Err e ↦ refl ]
 
 -- the log of ranges by outlines
-abbrev pub logged_outlines : List ReadAtRequest → List Outline → Log
+abbrev pub logged_outlines : List ReadAtRequest → List (RangeAnswer ℕ) → Log
 logged_outlines [] left = []
 logged_outlines (r ∷ rest) left =
-    record { range = r; mark = mark_of_outline r.length (find (outlines r) left) } ∷ logged_outlines rest (without_first (outlines r) left)
+    record { range = r; mark = mark_of_outline r.length (find (names r) left) } ∷ logged_outlines rest (without_first (names r) left)
 
 -- it is the log by answers
-pub logged_outlines-map : (asked : List ReadAtRequest) (answers : List RangeAnswer) → logged_outlines asked (map outline_of answers) ≡ logged asked answers
+pub logged_outlines-map : (asked : List ReadAtRequest) (answers : List (RangeAnswer Buffer)) → logged_outlines asked (map outline_of answers) ≡ logged asked answers
 logged_outlines-map [] answers = refl
 logged_outlines-map (r ∷ rest) answers =
-    let found = find-map (outlines r) outline_of answers in
-    let marks : mark_of_outline r.length (find (outlines r) (map outline_of answers)) ≡ mark_of r answers = ap (mark_of_outline r.length) found ∙ mark_of_outline-map r.length (find (names r) answers) in
-    let left = without_first-map (outlines r) outline_of answers in
-    let others : logged_outlines rest (without_first (outlines r) (map outline_of answers)) ≡ logged rest (without_answer r answers) = ap (logged_outlines rest) left ∙ logged_outlines-map rest (without_answer r answers) in
+    let found = find-map (names r) outline_of answers in
+    let marks : mark_of_outline r.length (find (names r) (map outline_of answers)) ≡ mark_of r answers = ap (mark_of_outline r.length) found ∙ mark_of_outline-map r.length (find (names r) answers) in
+    let left = without_first-map (names r) outline_of answers in
+    let others : logged_outlines rest (without_first (names r) (map outline_of answers)) ≡ logged rest (without_answer r answers) = ap (logged_outlines rest) left ∙ logged_outlines-map rest (without_answer r answers) in
     cc (marks, others)

@@ -1,12 +1,15 @@
 -- A reader in memory without mischief.
-use Rattle.std.proofs.Common.{◌≡◌, ℕ, ◌+◌, Bool, true, false, nat_le, List, [], ◌∷◌, map, length, All, refl, arith, length-take, length-drop, None, Ok, Err, if◌then◌else◌}
+use Rattle.std.proofs.Common.{◌≡◌, ◌∙◌, ap, ◌++◌, ℕ, ◌+◌, Bool, true, false, nat_le, List, [], ◌∷◌, map, length, All, refl, arith, length-take, length-drop, None, Ok, Err, if◌then◌else◌}
 use Rattle.std.proofs.lemmas.List.Elements.{recursion_from_All}
 use Rattle.std.proofs.lemmas.Bool.Decides.{nat_tests}
 use Rattle.std.specs.List.{AllByRecursion}
+use Rattle.std.proofs.lemmas.List.{append-nil}
 use Rattle.vx_base.specs.Asking.{IsInside, faulted, logged, same_range, mark_of, mark_of_result}
 use Rattle.vx_base.specs.Buffer.{Buffer, bytes_at}
 use Rattle.vx_base.specs.declared.answer.RangeAnswer.{RangeAnswer}
-use Rattle.vx_base.specs.Memory.{plain_answer, is_well_behaved}
+use Rattle.vx_base.specs.Mischiefs.{plain_answer, is_well_behaved, turn, answers_of}
+use Rattle.vx_base.specs.Counts.{next_count}
+use Rattle.vx_base.specs.Memory.{is_empty, is_failing}
 use Rattle.vx_base.specs.declared.answer.ReadAtRequest.{ReadAtRequest}
 use Rattle.vx_base.specs.declared.mischief.Mischief.{Mischief}
 
@@ -43,7 +46,26 @@ plain-faulted b [] h = refl
 plain-faulted b (r ∷ rest) h =
     rw (plain-marked b r rest h.0, same_range-refl r) (plain-faulted b rest h.1)
 
+-- without mischief each range gets its plain answer in the first turn
+pub turn-prompt : (b : List ℕ) (place : ℕ) (asked : List ReadAtRequest) → turn false b [] place asked ≡ map (plain_answer b) asked
+turn-prompt b place [] = refl
+turn-prompt b place (r ∷ rest) = ap (λ rs. plain_answer b r ∷ rs) (turn-prompt b (next_count place) rest)
+
+-- and none in the second
+pub turn-late : (b : List ℕ) (place : ℕ) (asked : List ReadAtRequest) → turn true b [] place asked ≡ []
+turn-late b place [] = refl
+turn-late b place (r ∷ rest) = turn-late b (next_count place) rest
+
+pub plain-answers : (b : List ℕ) (place : ℕ) (asked : List ReadAtRequest) → answers_of b [] place asked ≡ map (plain_answer b) asked
+plain-answers b place asked =
+    ap (λ rs. turn false b [] place asked ++ rs) (turn-late b place asked) ∙ append-nil (turn false b [] place asked) ∙ turn-prompt b place asked
+
 -- a reader that behaves leaves no fault inside the bytes
-pub well_behaved-faulted : (b : List ℕ) (mischief : List Mischief) (asked : List ReadAtRequest) (answers : List RangeAnswer) → is_well_behaved mischief ≡ true → All (IsInside b) asked → (mischief ≡ [] → answers ≡ map (plain_answer b) asked) → faulted (logged asked answers) ≡ 0
-well_behaved-faulted b mischief asked answers w inside plain =
-    rw (plain (well_behaved-nil mischief w)) (plain-faulted b asked (recursion_from_All (IsInside b) asked inside))
+pub well_behaved-faulted : (b : List ℕ) (mischief : List Mischief) (place : ℕ) (asked : List ReadAtRequest) (answers : List (RangeAnswer Buffer)) → is_well_behaved mischief ≡ true → All (IsInside b) asked → answers ≡ answers_of b mischief place asked → faulted (logged asked answers) ≡ 0
+well_behaved-faulted b mischief place asked answers w inside are =
+    rw (are ∙ ap (λ ms. answers_of b ms place asked) (well_behaved-nil mischief w) ∙ plain-answers b place asked) (plain-faulted b asked (recursion_from_All (IsInside b) asked inside))
+
+-- where no place is given no call fails
+pub empty_failing : (fail : List ℕ) (place : ℕ) → is_empty fail ≡ true → is_failing fail place ≡ false
+empty_failing [] place h = refl
+empty_failing (n ∷ ns) place h = cc

@@ -1,5 +1,5 @@
 -- What a sink takes, turn by turn and piece by piece.
-use Rattle.std.proofs.Common.{◌≡◌, ℕ, zero, suc, ◌+◌, ◌-◌, ◌<◌, ◌≤◌, List, [], ◌∷◌, ◌++◌, length, take, drop, get_or, Option, Some, None, refl, sym, ap, subst, ◌∙◌, arith, append_assoc, length-drop, drop-cons, add-one, min, inl, inr}
+use Rattle.std.proofs.Common.{◌≡◌, ℕ, true, zero, suc, ◌+◌, ◌-◌, ◌<◌, ◌≤◌, List, [], ◌∷◌, ◌++◌, length, take, drop, get_or, Option, Some, None, refl, sym, ap, subst, ◌∙◌, arith, append_assoc, length-drop, drop-cons, add-one, min, inl, inr}
 use Rattle.std.specs.Prelude.{Result, Ok, Err, OnErr}
 use Rattle.std.specs.List.{flat_map}
 use Rattle.std.specs.Option.{option_map}
@@ -7,7 +7,8 @@ use Rattle.std.proofs.lemmas.Bool.{cases_lt}
 use Rattle.std.proofs.lemmas.List.{drop-drop, drop_all, append-nil, take-append-drop, take-append-le}
 use Rattle.std.proofs.Math.Seq.{take-add, take-append-add}
 use Rattle.vx_base.specs.Counts.{Rises}
-use Rattle.vx_base.specs.Taking.{Took, TookPrefix}
+use Rattle.vx_base.specs.Streams.{Took, TookPrefix, SinkState, SameSink, RefusalCause, WritesAll}
+use Rattle.vx_base.specs.declared.fault.SinkError.{SinkError}
 
 -- ---- one turn of writing
 
@@ -115,3 +116,51 @@ pieces-prefix f xs i d start now next lt h before final k =
 pub pieces-done : {X : Type 0} (f : X → List ℕ) (xs : List X) (i : ℕ) (start now : Option (List ℕ)) → length xs ≤ i
     → ((final : Option (List ℕ)) → Took (flat_map f (drop i xs)) now final → Took (flat_map f xs) start final) → Took (flat_map f xs) start now
 pieces-done f xs i start now le before = before now (subst (λ x. Took x now now) (sym (pieces-end f xs i le)) (nothing-took now))
+
+-- ---- calls of a sink, one behind the other
+
+-- a sink that never fails had no fault
+abbrev pub Faultless : SinkState → SinkState → Type 0
+Faultless before now = before.never_fails ≡ true → now.faults ≡ before.faults
+
+pub faultless-then : (a b c : SinkState) → SameSink a b → Faultless a b → Faultless b c → Faultless a c
+faultless-then a b c same h k sound = k (same.never_fails ∙ sound) ∙ h sound
+
+-- a call that is refused after others
+pub refused-then : {A B : Type 0} (a b c : SinkState) (r : Result A SinkError) (s : Result B SinkError) → SameSink a b → Faultless a b → ((e : SinkError) → s ≡ Err e → r ≡ Err e) → RefusalCause b c r → RefusalCause a c s
+refused-then a b c r s same still leads h = record {
+  failed = λ e. rises-later _ _ _ same.never_falls (h.failed (leads _ e));
+  memory = λ e. rises-later _ _ _ same.memory_never_falls (h.memory (leads _ e));
+  sound = λ sound. let k = h.sound (same.never_fails ∙ sound) in (λ e. k.0 (leads _ e), k.1 ∙ still sound);
+}
+
+-- bytes behind others that were taken whole
+pub written-then : (a b : List ℕ) (s t u : SinkState) (r : Result (Unit {0}) SinkError) → Took a s.gained t.gained → SameSink s t → Faultless s t → WritesAll b t u r → WritesAll (a ++ b) s u r
+written-then a b s t u (Ok x) took same still w = record {
+  took = took-both a b s.gained t.gained u.gained took w.took;
+  prefix = tt;
+  refused = refused-then s t u (Ok x) (Ok x) same still (λ e h. h) w.refused;
+}
+written-then a b s t u (Err x) took same still w = record {
+  took = tt;
+  prefix = took-then a b s.gained t.gained u.gained took w.prefix;
+  refused = refused-then s t u (Err x) (Err x) same still (λ e h. h) w.refused;
+}
+
+-- pieces up to one that was refused
+pub pieces-refused : {X : Type 0} (f : X → List ℕ) (xs : List X) (i : ℕ) (d : X) (s t u : SinkState) (e : SinkError) (r : Result (Unit {0}) SinkError) → i < length xs → r ≡ Err e
+    → ((final : Option (List ℕ)) → TookPrefix (flat_map f (drop i xs)) t.gained final → TookPrefix (flat_map f xs) s.gained final) → SameSink s t → Faultless s t → WritesAll (f (get_or xs i d)) t u (Err e) → WritesAll (flat_map f xs) s u r
+pieces-refused f xs i d s t u e r lt is before same still w = rw is (record {
+  took = tt;
+  prefix = pieces-cut f xs i d s.gained t.gained u.gained lt before w.prefix;
+  refused = refused-then s t u (Err e) (Err e) same still (λ e h. h) w.refused;
+})
+
+-- all pieces
+pub pieces-written : {X : Type 0} (f : X → List ℕ) (xs : List X) (i : ℕ) (s t : SinkState) → length xs ≤ i
+    → ((final : Option (List ℕ)) → Took (flat_map f (drop i xs)) t.gained final → Took (flat_map f xs) s.gained final) → Faultless s t → WritesAll (flat_map f xs) s t (Ok tt)
+pieces-written f xs i s t le before still = record {
+  took = pieces-done f xs i s.gained t.gained le before;
+  prefix = tt;
+  refused = record { failed = λ e. cc; memory = λ e. cc; sound = λ sound. (λ e. cc, still sound) };
+}

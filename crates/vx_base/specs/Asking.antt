@@ -32,15 +32,15 @@ abbrev pub same_range : ReadAtRequest → ReadAtRequest → Bool
 same_range a b = (a.offset == b.offset) && (a.length == b.length) && (a.alignment == b.alignment)
 
 -- whether an answer names exactly this range
-abbrev pub names : ReadAtRequest → RangeAnswer → Bool
+abbrev pub names : {B : Type 0} → ReadAtRequest → RangeAnswer B → Bool
 names range answer = same_range range answer.request
 
 -- the first answer that names a range
-abbrev pub answer_to : ReadAtRequest → List RangeAnswer → Option RangeAnswer
+abbrev pub answer_to : {B : Type 0} → ReadAtRequest → List (RangeAnswer B) → Option (RangeAnswer B)
 answer_to range answers = find (names range) answers
 
 -- the answers without the first one that names a range
-abbrev pub without_answer : ReadAtRequest → List RangeAnswer → List RangeAnswer
+abbrev pub without_answer : {B : Type 0} → ReadAtRequest → List (RangeAnswer B) → List (RangeAnswer B)
 without_answer range answers = without_first (names range) answers
 
 -- what this many bytes say of a range of this length
@@ -53,16 +53,16 @@ mark_of_result size (Ok buffer) = mark_of_bytes size (length buffer.bytes)
 mark_of_result size (Err _) = Some ReadFault
 
 -- what the answer to a range of this length says of it
-abbrev pub mark_of_answer : ℕ → Option RangeAnswer → Option FaultKind
+abbrev pub mark_of_answer : ℕ → Option (RangeAnswer Buffer) → Option FaultKind
 mark_of_answer size None = Some MissingRange
 mark_of_answer size (Some a) = mark_of_result size a.result
 
 -- the mark of a range by the first answer that names it
-abbrev pub mark_of : ReadAtRequest → List RangeAnswer → Option FaultKind
+abbrev pub mark_of : ReadAtRequest → List (RangeAnswer Buffer) → Option FaultKind
 mark_of range answers = mark_of_answer range.length (answer_to range answers)
 
 -- the ranges asked in one call, each marked by the first answer left that names it
-abbrev pub logged : List ReadAtRequest → List RangeAnswer → Log
+abbrev pub logged : List ReadAtRequest → List (RangeAnswer Buffer) → Log
 logged [] answers = []
 logged (r ∷ rest) answers =
     record { range = r; mark = mark_of r answers } ∷ logged rest (without_answer r answers)
@@ -78,12 +78,12 @@ abbrev pub IsInside : List ℕ → ReadAtRequest → Type 0
 IsInside bytes range = range.offset + range.length ≤ length bytes
 
 -- where the answer has bytes of the length that it names, they are those of its range
-abbrev pub IsTrueTo : List ℕ → RangeAnswer → Type 0
+abbrev pub IsTrueTo : List ℕ → RangeAnswer Buffer → Type 0
 IsTrueTo bytes answer = (buffer : Buffer) → answer.result ≡ Ok buffer →
     length buffer.bytes ≡ answer.request.length →
     buffer.bytes ≡ bytes_at bytes answer.request.offset answer.request.length
 
 -- the ranges of a log are those that were asked
-pub ranges_of-logged : (asked : List ReadAtRequest) (answers : List RangeAnswer) → ranges_of (logged asked answers) ≡ asked
+pub ranges_of-logged : (asked : List ReadAtRequest) (answers : List (RangeAnswer Buffer)) → ranges_of (logged asked answers) ≡ asked
 ranges_of-logged [] answers = refl
 ranges_of-logged (r ∷ rest) answers = ap (λ rs. r ∷ rs) (ranges_of-logged rest (without_answer r answers))

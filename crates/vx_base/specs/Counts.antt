@@ -13,3 +13,7 @@ pub record Rises (by before now : ℕ) : Type 0 where
 -- a count is greater now, or stands at its last value
 abbrev pub Rose : ℕ → ℕ → Type 0
 Rose before now = (before < now) ⊎ (last_count ≤ now)
+
+-- one more, up to the last value
+abbrev pub next_count : ℕ → ℕ
+next_count n = min (n + 1) last_count

@@ -1,10 +1,12 @@
 pub mod Aligned
 pub mod Asking
 pub mod Buffer
+pub mod Checks
 pub mod Counts
 pub mod FaultName
 pub mod Memory
+pub mod Mischiefs
+pub mod Openers
 pub mod Outlines
-pub mod Returning
+pub mod Readers
 pub mod Streams
-pub mod Taking

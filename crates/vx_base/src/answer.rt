@@ -11,9 +11,9 @@ pub struct ReadAtRequest {
 
 /// An answer of a reader, which names the range that it answers.
 #[derive(Drop)]
-pub struct RangeAnswer {
+pub struct RangeAnswer<B = ByteBuffer> {
     pub request: ReadAtRequest,
-    pub result: Result<ByteBuffer, Failed>,
+    pub result: Result<B, Failed>,
 }
 
 /// A range that a reader was asked, and its mark: why it got no bytes of its length, if it got none.

@@ -1,7 +1,7 @@
 //! The answers of a reader in memory.
-ghost use Rattle.std.specs.Prelude.{◌≡◌, ℕ, ◌≢◌, ◌∷◌, ◌++◌, List, [], length, map, All, None, IfOk, OnOk, true, false};
+ghost use Rattle.std.specs.Prelude.{◌≡◌, ◌≢◌, ◌∷◌, ◌++◌, [], length, All, IfOk, OnOk};
 ghost use Rattle.vx_base.specs.Asking.{IsTrueTo};
-ghost use Rattle.vx_base.specs.Memory.{plain_answer};
+ghost use Rattle.vx_base.specs.Mischiefs.{plain_answer, failed_answer, short_answer, without_last, past, turn_answers, turn};
 
 use crate::mischief::mischief_at;
 use crate::{Alignment, ByteBuffer, Failed, Mischief, MischiefKind, RangeAnswer, ReadAtRequest};
@@ -15,14 +15,12 @@ fn answer_plainly(
 ) -> Result<RangeAnswer, AllocError>
     ensures plain { IfOk result (λ a. a ≡ plain_answer held.now.bytes range.now) }
     ensures slices { IfOk result (λ a. IsTrueTo held.now.bytes a) }
+    ensures request { IfOk result (λ a. a.request ≡ range.now) }
     ensures len { IfOk result (λ a. IfOk a.result (λ b. length b.bytes ≡ range.now.length)) }
 {
     let size = held.len() as u64;
     if range.offset > size || range.length as u64 > size - range.offset {
-        return Ok(RangeAnswer {
-            request: *range,
-            result: Err(Failed),
-        });
+        return Ok(answer_failed(range));
     }
     let start = range.offset as usize;
     let cut = held.slice(alloc, start..start + range.length)?;
@@ -32,9 +30,20 @@ fn answer_plainly(
     })
 }
 
+// The answer that a range failed.
+fn answer_failed(range: &ReadAtRequest) -> RangeAnswer
+    ensures { result ≡ failed_answer range.now }
+{
+    RangeAnswer {
+        request: *range,
+        result: Err(Failed),
+    }
+}
+
 // A buffer without its last byte, or of one zero where it is empty.
 fn shortened(alloc: Global, buffer: &ByteBuffer) -> Result<ByteBuffer, AllocError>
-    ensures { IfOk result (λ b. length b.bytes ≢ length buffer.now.bytes) }
+    ensures value { IfOk result (λ b. b ≡ without_last buffer.now) }
+    ensures other { IfOk result (λ b. length b.bytes ≢ length buffer.now.bytes) }
 {
     if buffer.is_empty() {
         return ByteBuffer::from_vec(alloc, vec![in alloc; 0u8]?, Alignment::none());
@@ -48,7 +57,8 @@ fn answer_shortly(
     held: &ByteBuffer,
     range: &ReadAtRequest,
 ) -> Result<RangeAnswer, AllocError>
-    ensures { IfOk result (λ a. IsTrueTo held.now.bytes a) }
+    ensures value { IfOk result (λ a. a ≡ short_answer held.now.bytes range.now) }
+    ensures slices { IfOk result (λ a. IsTrueTo held.now.bytes a) }
 {
     let answer = answer_plainly(alloc, held, range)?;
     match &answer.result {
@@ -59,27 +69,19 @@ fn answer_shortly(
                 result: Ok(cut),
             })
         }
-        Err(_) => Ok(RangeAnswer {
-            request: *range,
-            result: Err(Failed),
-        }),
+        Err(_) => Ok(answer_failed(range)),
     }
 }
 
-// The answer to the range 4 past a range, which nobody asked for.
-fn answer_unasked(
-    alloc: Global,
-    held: &ByteBuffer,
-    range: &ReadAtRequest,
-) -> Result<RangeAnswer, AllocError>
-    ensures { IfOk result (λ a. IsTrueTo held.now.bytes a) }
+// The range 4 past a range.
+fn past_of(range: &ReadAtRequest) -> ReadAtRequest
+    ensures { result ≡ past range.now }
 {
-    let past = ReadAtRequest {
+    ReadAtRequest {
         offset: range.offset.saturating_add(4),
         length: range.length,
         alignment: range.alignment,
-    };
-    answer_plainly(alloc, held, &past)
+    }
 }
 
 // Adds an answer.
@@ -99,7 +101,7 @@ fn push_true(
 }
 
 // Adds the answers to one range in one of the two turns of a call: of late answers, or of the others.
-fn push_answer(
+fn push_answers(
     alloc: Global,
     held: &ByteBuffer,
     range: &ReadAtRequest,
@@ -109,25 +111,25 @@ fn push_answer(
 ) -> Result<(), AllocError>
     requires { All (IsTrueTo held.now.bytes) answers.old.items }
     ensures slices { OnOk result (All (IsTrueTo held.now.bytes) answers.new.items) }
-    ensures plain { kind ≡ None → late ≡ false → OnOk result
-        (answers.new.items ≡ answers.old.items ++ plain_answer held.now.bytes range.now ∷ []) }
-    ensures none_late { kind ≡ None → late ≡ true → OnOk result (answers.new.items ≡ answers.old.items) }
+    ensures value { OnOk result (answers.new.items ≡ answers.old.items ++ turn_answers late held.now.bytes kind range.now) }
 {
-    if (kind == Some(MischiefKind::Late)) != late {
-        return Ok(());
+    if late {
+        return match kind {
+            Some(MischiefKind::Late) => push_true(
+                held,
+                answer_plainly(alloc, held, range)?,
+                answers,
+            ),
+            _ => Ok(()),
+        };
     }
     match kind {
-        Some(MischiefKind::Skip) => Ok(()),
-        Some(MischiefKind::Fail) => {
-            let failed = RangeAnswer {
-                request: *range,
-                result: Err(Failed),
-            };
-            push_true(held, failed, answers)
-        }
+        Some(MischiefKind::Skip) | Some(MischiefKind::Late) => Ok(()),
+        Some(MischiefKind::Fail) => push_true(held, answer_failed(range), answers),
         Some(MischiefKind::Short) => push_true(held, answer_shortly(alloc, held, range)?, answers),
         Some(MischiefKind::Unknown) => {
-            push_true(held, answer_unasked(alloc, held, range)?, answers)?;
+            let unasked = answer_plainly(alloc, held, &past_of(range))?;
+            push_true(held, unasked, answers)?;
             push_true(held, answer_plainly(alloc, held, range)?, answers)
         }
         _ => push_true(held, answer_plainly(alloc, held, range)?, answers),
@@ -146,15 +148,13 @@ pub(crate) fn push_turn(
 ) -> Result<(), AllocError>
     requires { All (IsTrueTo held.now.bytes) answers.old.items }
     ensures slices { OnOk result (All (IsTrueTo held.now.bytes) answers.new.items) }
-    ensures plain { mischief.now ≡ [] → late ≡ false → OnOk result
-        (answers.new.items ≡ answers.old.items ++ map (plain_answer held.now.bytes) asked.now) }
-    ensures none_late { mischief.now ≡ [] → late ≡ true → OnOk result
-        (answers.new.items ≡ answers.old.items) }
+    ensures value { OnOk result
+        (answers.new.items ≡ answers.old.items ++ turn late held.now.bytes mischief.now place asked.now) }
 {
     let mut at = place;
     for range in asked {
         let kind = mischief_at(mischief, at);
-        push_answer(alloc, held, range, kind, late, answers)?;
+        push_answers(alloc, held, range, kind, late, answers)?;
         at = at.saturating_add(1);
     }
     Ok(())

@@ -2,7 +2,7 @@
 ghost use Rattle.std.specs.Prelude.{◌≡◌};
 ghost use Rattle.vx_base.specs.FaultName.{fault_name};
 
-use std::alloc::{AllocError, AllocFailed};
+use std::alloc::AllocError;
 use std::fmt;
 use thiserror::Error;
 
@@ -78,60 +78,5 @@ impl From<AllocError> for CloneError {
 
     fn from(_error: AllocError) -> CloneError {
         CloneError::OutOfMemory
-    }
-}
-
-impl<T: Drop> From<AllocFailed<T>> for CloneError {
-    ghost use Rattle.std.specs.Prelude.{◌≡◌};
-    ghost use Rattle.vx_base.specs.declared.fault.CloneError.TheVariants.{OutOfMemory};
-
-    ghost from_gives = { λ _ e. e ≡ OutOfMemory };
-
-    fn from(_error: AllocFailed<T>) -> CloneError {
-        CloneError::OutOfMemory
-    }
-}
-
-impl From<AllocError> for SinkError {
-    ghost use Rattle.std.specs.Prelude.{◌≡◌};
-    ghost use Rattle.vx_base.specs.declared.fault.SinkError.TheVariants.{OutOfMemory};
-
-    ghost from_gives = { λ _ e. e ≡ OutOfMemory };
-
-    fn from(_error: AllocError) -> SinkError {
-        SinkError::OutOfMemory
-    }
-}
-
-impl<T: Drop> From<AllocFailed<T>> for SinkError {
-    ghost use Rattle.std.specs.Prelude.{◌≡◌};
-    ghost use Rattle.vx_base.specs.declared.fault.SinkError.TheVariants.{OutOfMemory};
-
-    ghost from_gives = { λ _ e. e ≡ OutOfMemory };
-
-    fn from(_error: AllocFailed<T>) -> SinkError {
-        SinkError::OutOfMemory
-    }
-}
-
-impl From<AllocError> for OpenerError {
-    ghost use Rattle.std.specs.Prelude.{◌≡◌};
-    ghost use Rattle.vx_base.specs.declared.fault.OpenerError.TheVariants.{OutOfMemory};
-
-    ghost from_gives = { λ _ e. e ≡ OutOfMemory };
-
-    fn from(_error: AllocError) -> OpenerError {
-        OpenerError::OutOfMemory
-    }
-}
-
-impl<T: Drop> From<AllocFailed<T>> for OpenerError {
-    ghost use Rattle.std.specs.Prelude.{◌≡◌};
-    ghost use Rattle.vx_base.specs.declared.fault.OpenerError.TheVariants.{OutOfMemory};
-
-    ghost from_gives = { λ _ e. e ≡ OutOfMemory };
-
-    fn from(_error: AllocFailed<T>) -> OpenerError {
-        OpenerError::OutOfMemory
     }
 }

@@ -2,8 +2,8 @@
 ghost use Rattle.std.specs.Prelude.{◌≡◌};
 
 use crate::{
-    ByteBuffer, CloneError, CoalesceConfig, Failed, Opener, OpenerError, RangeAnswer,
-    ReadAtRequest, Reader, count_faulted, log_answers,
+    ByteBuffer, CloneError, Failed, Opener, OpenerError, RangeAnswer, ReadAtRequest, Reader,
+    count_faulted, log_answers,
 };
 use std::alloc::{AllocError, Global};
 use std::fs;
@@ -14,19 +14,19 @@ use std::os::unix::fs::FileExt;
 // As many ranges as one call may ask.
 const MOST_RANGES: usize = 8;
 
-/// A reader over an open file, with no window and a concurrency of 8.
+/// A reader over an open file, with no distance, no read limit and a concurrency of 8.
 #[derive(Drop)]
 pub struct FileReader {
     file: File,
-    failures: u64,
+    faults: u64,
 }
 
 impl FileReader {
     /// A reader over an open file.
     pub fn new(file: File) -> FileReader
-        ensures { ⟦<FileReader as Reader>⟧.faults result ≡ 0 }
+        ensures { (⟦<FileReader as Reader>⟧.state result).faults ≡ 0 }
     {
-        FileReader { file, failures: 0 }
+        FileReader { file, faults: 0 }
     }
 
     // Fills a buffer from a place, or fails where the file ends before.
@@ -69,23 +69,22 @@ impl FileReader {
 impl Reader for FileReader {
     ghost use Rattle.std.specs.Prelude.{None, false};
 
-    ghost bytes = { λ _. None };
-
-    ghost log = { λ _. None };
-
-    ghost faults = { λ r. r.failures };
-
-    ghost most = { λ _. 8 };
-
-    ghost window_of = { λ _. None };
-
-    ghost never_fails = { λ _. false };
+    ghost state = { λ r. record {
+      bytes = None;
+      uri = None;
+      distance = None;
+      max_read_size = None;
+      concurrency = 8;
+      never_fails = false;
+      log = None;
+      faults = r.faults;
+    } };
 
     fn size(&mut self) -> Result<u64, Failed> {
         match self.file.metadata() {
             Ok(metadata) => Ok(metadata.len()),
             Err(_) => {
-                self.failures = self.failures.saturating_add(1);
+                self.faults = self.faults.saturating_add(1);
                 Err(Failed)
             }
         }
@@ -102,11 +101,15 @@ impl Reader for FileReader {
         }
         let gained = log_answers(alloc, asked, answers.as_slice())?;
         let faulted = count_faulted(gained.as_slice()) as u64;
-        self.failures = self.failures.saturating_add(faulted);
+        self.faults = self.faults.saturating_add(faulted);
         Ok(answers)
     }
 
-    fn window(&self) -> Option<CoalesceConfig> {
+    fn coalesce_distance(&self) -> Option<u64> {
+        None
+    }
+
+    fn max_read_size(&self) -> Option<u64> {
         None
     }
 
@@ -123,7 +126,7 @@ impl Reader for FileReader {
         match self.file.try_clone() {
             Ok(file) => Ok(FileReader::new(file)),
             Err(_) => {
-                self.failures = self.failures.saturating_add(1);
+                self.faults = self.faults.saturating_add(1);
                 Err(CloneError::Failed)
             }
         }
@@ -134,20 +137,20 @@ impl Reader for FileReader {
 #[derive(Drop)]
 pub struct FileOpener<R: Files<File = File> + Drop> {
     runtime: R,
-    failures: u64,
-    read_failures: u64,
+    faults: u64,
+    read_faults: u64,
 }
 
 impl<R: Files<File = File> + Drop> FileOpener<R> {
     /// What opens files of a runtime, as that of `main`.
     pub fn new(runtime: R) -> FileOpener<R>
-        ensures faults { ⟦<FileOpener<R> as Opener>⟧.faults result ≡ 0 }
-        ensures read_faults { ⟦<FileOpener<R> as Opener>⟧.read_faults result ≡ 0 }
+        ensures faults { (⟦<FileOpener<R> as Opener>⟧.state result).faults ≡ 0 }
+        ensures read_faults { (⟦<FileOpener<R> as Opener>⟧.state result).read_faults ≡ 0 }
     {
         FileOpener {
             runtime,
-            failures: 0,
-            read_failures: 0,
+            faults: 0,
+            read_faults: 0,
         }
     }
 }
@@ -157,24 +160,22 @@ impl<R: Files<File = File> + Drop> Opener for FileOpener<R> {
 
     ghost use Rattle.std.specs.Prelude.{None, false};
 
-    ghost file = { λ _ _. None };
-
-    ghost readers_never_fail = { λ _ _. false };
-
-    ghost asked = { λ _. None };
-
-    ghost returned = { λ _. None };
-
-    ghost faults = { λ o. o.failures };
-
-    ghost read_faults = { λ o. o.read_failures };
+    ghost state = { λ o. record {
+      file = λ _. None;
+      never_fails = λ _. false;
+      asked = None;
+      returned = None;
+      faults = o.faults;
+      read_faults = o.read_faults;
+      memory_faults = 0;
+    } };
 
     fn open_named(&mut self, alloc: Global, name: &str) -> Result<FileReader, OpenerError> {
         let _ = alloc;
         match fs::open(&self.runtime, name) {
             Ok(file) => Ok(FileReader::new(file)),
             Err(_) => {
-                self.failures = self.failures.saturating_add(1);
+                self.faults = self.faults.saturating_add(1);
                 Err(OpenerError::Failed)
             }
         }
@@ -188,7 +189,7 @@ impl<R: Files<File = File> + Drop> Opener for FileOpener<R> {
     ) -> Result<(), AllocError> {
         let _ = alloc;
         let _ = name;
-        self.read_failures = self.read_failures.saturating_add(reader.failures);
+        self.read_faults = self.read_faults.saturating_add(reader.faults);
         Ok(())
     }
 }

@@ -1,31 +1,55 @@
-//! The log of one call of a reader: each range that was asked with the mark that its answer gives it.
-ghost use Rattle.std.specs.Prelude.{◌≡◌, ◌<◌, map, find, position, length, IfOk, IfSome, OnSome, OnOk, IfNone};
-ghost use Rattle.vx_base.specs.Asking.{logged, without_first, same_range, ranges_of, faulted};
-ghost use Rattle.vx_base.specs.Outlines.{outline_of, outlines, mark_of_outline};
+//! Answers matched to ranges: each range gets the first answer left that names it.
+ghost use Rattle.std.specs.Prelude.{◌≡◌, map, position, IfOk};
+ghost use Rattle.vx_base.specs.Asking.{logged, names, answer_to, without_answer, same_range, ranges_of, faulted};
+ghost use Rattle.vx_base.specs.Outlines.{outline_of, mark_of_outline};
 
-use crate::{Asked, FaultKind, RangeAnswer, ReadAtRequest};
+use crate::{Asked, Failed, FaultKind, RangeAnswer, ReadAtRequest};
 use std::alloc::{AllocError, Global};
 
-#[derive(Clone, Copy)]
-struct Outline {
-    request: ReadAtRequest,
-    count: Option<usize>,
+fn is_same(a: &ReadAtRequest, b: &ReadAtRequest) -> bool
+    ensures { result ≡ same_range a.now b.now }
+{
+    a.offset == b.offset && a.length == b.length && a.alignment.exponent() == b.alignment.exponent()
 }
 
-fn outlined(answer: &RangeAnswer) -> Outline
-    ensures { result ≡ outline_of answer.now }
+fn place_of<B>(answers: &[RangeAnswer<B>], range: &ReadAtRequest) -> Option<usize>
+    ensures { result ≡ position (names range.now) answers.now }
 {
-    let count = match &answer.result {
-        Ok(buffer) => Some(buffer.len()),
-        Err(_) => None,
-    };
-    Outline {
-        request: answer.request,
-        count,
+    answers.iter().position(|a| is_same(range, &a.request))
+}
+
+/// Takes the first answer that names a range.
+pub fn take_answer<B>(
+    answers: &mut Vec<RangeAnswer<B>>,
+    range: &ReadAtRequest,
+) -> Option<RangeAnswer<B>>
+    ensures found { result ≡ answer_to range.now answers.old.items }
+    ensures left { answers.new.items ≡ without_answer range.now answers.old.items }
+{
+    match place_of(answers.as_slice(), range) {
+        Some(place) => Some(answers.remove(place)),
+        None => None,
     }
 }
 
-fn all_outlined(alloc: Global, answers: &[RangeAnswer]) -> Result<Vec<Outline>, AllocError>
+// An answer without its bytes.
+fn outlined(answer: &RangeAnswer) -> RangeAnswer<usize>
+    ensures { result ≡ outline_of answer.now }
+{
+    let result = match &answer.result {
+        Ok(buffer) => Ok(buffer.len()),
+        Err(_) => Err(Failed),
+    };
+    RangeAnswer {
+        request: answer.request,
+        result,
+    }
+}
+
+fn all_outlined(
+    alloc: Global,
+    answers: &[RangeAnswer],
+) -> Result<Vec<RangeAnswer<usize>>, AllocError>
     ensures { IfOk result (λ all. all.items ≡ map outline_of answers.now) }
 {
     let mut all = Vec::new(alloc);
@@ -35,51 +59,19 @@ fn all_outlined(alloc: Global, answers: &[RangeAnswer]) -> Result<Vec<Outline>, 
     Ok(all)
 }
 
-fn is_same(a: &ReadAtRequest, b: &ReadAtRequest) -> bool
-    ensures { result ≡ same_range a.now b.now }
-{
-    a.offset == b.offset && a.length == b.length && a.alignment.exponent() == b.alignment.exponent()
-}
-
-fn place_of(left: &[Outline], range: &ReadAtRequest) -> Option<usize>
-    ensures { result ≡ position (outlines range.now) left.now }
-{
-    left.iter().position(|o| is_same(range, &o.request))
-}
-
-fn take_outline(left: &mut Vec<Outline>, range: &ReadAtRequest) -> Option<Outline>
-    ensures found { result ≡ find (outlines range.now) left.old.items }
-    ensures left { left.new.items ≡ without_first (outlines range.now) left.old.items }
-{
-    match place_of(left.as_slice(), range) {
-        Some(place) => Some(left.remove(place)),
-        None => None,
-    }
-}
-
-fn mark(length: usize, outline: Option<Outline>) -> Option<FaultKind>
+fn mark(length: usize, outline: Option<RangeAnswer<usize>>) -> Option<FaultKind>
     ensures { result ≡ mark_of_outline length outline }
 {
-    match outline {
-        None => Some(FaultKind::MissingRange),
-        Some(
-            Outline {
-                request: _,
-                count: None,
-            },
-        ) => Some(FaultKind::ReadFault),
-        Some(
-            Outline {
-                request: _,
-                count: Some(count),
-            },
-        ) => {
-            if count == length {
-                None
-            } else {
-                Some(FaultKind::ShortRead)
-            }
-        }
+    let Some(RangeAnswer { request: _, result }) = outline else {
+        return Some(FaultKind::MissingRange);
+    };
+    let Ok(count) = result else {
+        return Some(FaultKind::ReadFault);
+    };
+    if count == length {
+        None
+    } else {
+        Some(FaultKind::ShortRead)
     }
 }
 
@@ -96,7 +88,7 @@ pub fn log_answers(
     let mut left = all_outlined(alloc, answers)?;
     let mut log = Vec::new(alloc);
     for range in asked {
-        let found = take_outline(&mut left, range);
+        let found = take_answer(&mut left, range);
         log.push(Asked {
             range: *range,
             mark: mark(range.length, found),

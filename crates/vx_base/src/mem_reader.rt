@@ -1,15 +1,17 @@
 //! A reader over memory, which can do mischief.
-ghost use Rattle.std.specs.Prelude.{◌≡◌, ℕ, ◌+◌, ◌^◌, ◌≤◌, ◌<◌, ◌∷◌, ◌-◌, ◌++◌, min, List, [], length, map, All, IfOk, OnOk, OnErr, true};
+ghost use Rattle.std.specs.Prelude.{◌≡◌, ◌+◌, ◌≤◌, ◌++◌, min, length, All, IfOk, OnOk, OnErr, true};
 ghost use Rattle.vx_base.specs.Asking.{IsInside, IsTrueTo, ranges_of, faulted, logged};
 ghost use Rattle.vx_base.specs.Counts.{Rises, last_count};
-ghost use Rattle.vx_base.specs.Memory.{plain_answer, is_well_behaved};
+ghost use Rattle.vx_base.specs.Memory.{MemReaderState, reader_state, new_reader, size_of, after_size, MemClones, MemReads};
+ghost use Rattle.vx_base.specs.Mischiefs.{is_well_behaved, answers_of};
+ghost use Rattle.vx_base.specs.Readers.{SizeCause, RangesCause, CloneCause, SameReader};
 
 use crate::answers::push_turn;
 use crate::matching::count_faulted;
-use crate::mischief::has_mischief;
+use crate::mischief::{fails_clone, fails_size};
 use crate::{
-    Asked, ByteBuffer, CloneError, CoalesceConfig, Failed, Mischief, MischiefKind, RangeAnswer,
-    ReadAtRequest, Reader, log_answers,
+    Asked, ByteBuffer, CloneError, Failed, Mischief, RangeAnswer, ReadAtRequest, Reader,
+    log_answers,
 };
 use std::alloc::{AllocError, Global};
 use std::marker::Model;
@@ -18,62 +20,64 @@ use std::marker::Model;
 /// ranges outside its bytes.
 #[derive(Drop)]
 pub struct MemReader {
-    held: ByteBuffer,
-    gathered: Option<CoalesceConfig>,
-    concurrent: usize,
-    wrongs: Vec<Mischief>,
-    asked: Vec<Asked>,
+    bytes: ByteBuffer,
+    distance: Option<u64>,
+    max_read_size: Option<u64>,
+    concurrency: usize,
+    mischief: Vec<Mischief>,
+    log: Vec<Asked>,
     ranges: Vec<ReadAtRequest>,
-    failures: u64,
-    size_calls: u64,
-    clone_calls: u64,
+    faults: u64,
+    sizes: u64,
+    clones: u64,
 }
 
 impl Model for MemReader {
     ghost use Rattle.std.specs.Prelude.{◌≡◌, ◌≤◌};
-    ghost use Rattle.vx_base.specs.Memory.{MemReading};
+    ghost use Rattle.vx_base.specs.Memory.{MemReaderState};
     ghost use Rattle.vx_base.specs.Asking.{ranges_of};
 
-    ghost Value = { MemReading };
+    ghost Value = { MemReaderState };
 
-    ghost view = { λ r. record { bytes = r.held.bytes; window = r.gathered; most = r.concurrent; mischief = r.wrongs.items; log = r.asked.items; faults = r.failures; sizes = r.size_calls; clones = r.clone_calls } };
+    ghost view = { λ r. record {
+      bytes = r.bytes.bytes;
+      distance = r.distance;
+      max_read_size = r.max_read_size;
+      concurrency = r.concurrency;
+      mischief = r.mischief.items;
+      log = r.log.items;
+      faults = r.faults;
+      sizes = r.sizes;
+      clones = r.clones;
+    } };
 
-    ghost invariant = { λ r. (r.ranges.items ≡ ranges_of r.asked.items) × (1 ≤ r.concurrent) };
+    ghost invariant = { λ r. (r.ranges.items ≡ ranges_of r.log.items) × (1 ≤ r.concurrency) };
 }
 
 impl MemReader {
-    ghost use Rattle.vx_base.specs.Memory.{MemReading};
-
-    /// A reader of these bytes, which was asked nothing yet.
+    /// A reader of these bytes, which was asked nothing yet. Without mischief it never fails.
     pub fn new(
         alloc: Global,
         bytes: ByteBuffer,
-        window: Option<CoalesceConfig>,
+        distance: Option<u64>,
+        max_read_size: Option<u64>,
         concurrency: usize,
         mischief: Vec<Mischief>,
     ) -> Result<MemReader, AllocError>
         requires { 1 ≤ concurrency }
-        ensures { IfOk result (λ r. r ≡ record {
-          bytes = bytes.bytes;
-          window = window;
-          most = concurrency;
-          mischief = mischief.items;
-          log = [];
-          faults = 0;
-          sizes = 0;
-          clones = 0;
-        }) }
+        ensures { IfOk result (λ r. r ≡ new_reader bytes.bytes distance max_read_size concurrency mischief.items) }
     {
         Ok(MemReader {
-            held: bytes,
-            gathered: window,
-            concurrent: concurrency,
-            wrongs: mischief,
-            asked: Vec::new(alloc),
+            bytes,
+            distance,
+            max_read_size,
+            concurrency,
+            mischief,
+            log: Vec::new(alloc),
             ranges: Vec::new(alloc),
-            failures: 0,
-            size_calls: 0,
-            clone_calls: 0,
+            faults: 0,
+            sizes: 0,
+            clones: 0,
         })
     }
 
@@ -88,25 +92,14 @@ impl MemReader {
     pub(crate) fn into_log(self) -> Vec<Asked>
         ensures { result.items ≡ self.log }
     {
-        let MemReader {
-            held: _,
-            gathered: _,
-            concurrent: _,
-            wrongs: _,
-            asked,
-            ranges: _,
-            failures: _,
-            size_calls: _,
-            clone_calls: _,
-        } = self;
-        asked
+        self.log
     }
 
     // How many faults there were.
-    pub(crate) fn failures(&self) -> u64
+    pub(crate) fn faults(&self) -> u64
         ensures { result ≡ self.now.faults }
     {
-        self.failures
+        self.faults
     }
 
     // Adds the ranges of a call to the log, all or none.
@@ -116,7 +109,7 @@ impl MemReader {
         ensures kept { OnErr result (self.new ≡ self.old) }
     {
         self.ranges.reserve(asked.len())?;
-        self.asked.extend_from_slice(gained)?;
+        self.log.extend_from_slice(gained)?;
         self.ranges.extend_from_slice(asked).unwrap();
         Ok(())
     }
@@ -127,7 +120,7 @@ impl MemReader {
         ensures rises { Rises count self.old.faults self.new.faults }
         ensures none { count ≡ 0 → self.new ≡ self.old }
     {
-        self.failures = self.failures.saturating_add(count);
+        self.faults = self.faults.saturating_add(count);
     }
 
     // The answers of a call, in the order that they come in.
@@ -136,18 +129,19 @@ impl MemReader {
         alloc: Global,
         asked: &[ReadAtRequest],
     ) -> Result<Vec<RangeAnswer>, AllocError>
+        ensures value { IfOk result (λ answers.
+            answers.items ≡ answers_of self.now.bytes self.now.mischief (length self.now.log) asked.now) }
         ensures slices { IfOk result (λ answers. All (IsTrueTo self.now.bytes) answers.items) }
-        ensures plain { self.now.mischief ≡ [] → IfOk result (λ answers.
-            answers.items ≡ map (plain_answer self.now.bytes) asked.now) }
         ensures unmarked { is_well_behaved self.now.mischief ≡ true → All (IsInside self.now.bytes) asked.now →
             IfOk result (λ answers. faulted (logged asked.now answers.items) ≡ 0) }
     {
-        let place = self.ranges.len() as u64;
+        let place = self.log.len() as u64;
+        let mischief = self.mischief.as_slice();
         let mut answers = Vec::new(alloc);
         push_turn(
             alloc,
-            &self.held,
-            self.wrongs.as_slice(),
+            &self.bytes,
+            mischief,
             place,
             asked,
             false,
@@ -155,8 +149,8 @@ impl MemReader {
         )?;
         push_turn(
             alloc,
-            &self.held,
-            self.wrongs.as_slice(),
+            &self.bytes,
+            mischief,
             place,
             asked,
             true,
@@ -167,35 +161,32 @@ impl MemReader {
 }
 
 impl Reader for MemReader {
-    ghost use Rattle.std.specs.Prelude.{Some};
+    ghost state = { reader_state };
 
-    ghost bytes = { λ r. Some r.bytes };
-
-    ghost log = { λ r. Some r.log };
-
-    ghost faults = { λ r. r.faults };
-
-    ghost most = { λ r. r.most };
-
-    ghost window_of = { λ r. r.window };
-
-    ghost never_fails = { λ r. is_well_behaved r.mischief };
-
-    fn size(&mut self) -> Result<u64, Failed> {
-        let place = self.size_calls;
-        self.size_calls = place.saturating_add(1);
-        if has_mischief(self.wrongs.as_slice(), place, MischiefKind::Size) {
+    fn size(&mut self) -> Result<u64, Failed>
+        ensures cause { SizeCause (reader_state self.old) (reader_state self.new) result }
+        ensures same { SameReader (reader_state self.old) (reader_state self.new) }
+        ensures value { result ≡ size_of self.old }
+        ensures after { self.new ≡ after_size self.old }
+    {
+        let place = self.sizes;
+        self.sizes = place.saturating_add(1);
+        if fails_size(self.mischief.as_slice(), place) {
             self.count_faults(1);
             return Err(Failed);
         }
-        Ok(self.held.len() as u64)
+        Ok(self.bytes.len() as u64)
     }
 
     fn read_ranges(
         &mut self,
         alloc: Global,
         asked: &[ReadAtRequest],
-    ) -> Result<Vec<RangeAnswer>, AllocError> {
+    ) -> Result<Vec<RangeAnswer>, AllocError>
+        ensures cause { RangesCause asked.now (reader_state self.old) (reader_state self.new) result }
+        ensures same { SameReader (reader_state self.old) (reader_state self.new) }
+        ensures exact { MemReads asked.now self.old self.new result }
+    {
         let answers = self.answers(alloc, asked)?;
         let gained = log_answers(alloc, asked, answers.as_slice())?;
         self.note(gained.as_slice(), asked)?;
@@ -203,31 +194,40 @@ impl Reader for MemReader {
         Ok(answers)
     }
 
-    fn window(&self) -> Option<CoalesceConfig> {
-        self.gathered
+    fn coalesce_distance(&self) -> Option<u64> {
+        self.distance
+    }
+
+    fn max_read_size(&self) -> Option<u64> {
+        self.max_read_size
     }
 
     fn concurrency(&self) -> usize {
-        self.concurrent
+        self.concurrency
     }
 
     fn uri(&self) -> Option<&str> {
         None
     }
 
-    fn try_clone(&mut self, alloc: Global) -> Result<MemReader, CloneError> {
-        let place = self.clone_calls;
-        self.clone_calls = place.saturating_add(1);
-        if has_mischief(self.wrongs.as_slice(), place, MischiefKind::Clone) {
+    fn try_clone(&mut self, alloc: Global) -> Result<MemReader, CloneError>
+        ensures cause { CloneCause reader_state (reader_state self.old) (reader_state self.new) result }
+        ensures same { SameReader (reader_state self.old) (reader_state self.new) }
+        ensures exact { MemClones self.old self.new result }
+    {
+        let place = self.clones;
+        self.clones = place.saturating_add(1);
+        if fails_clone(self.mischief.as_slice(), place) {
             self.count_faults(1);
             return Err(CloneError::Failed);
         }
-        let bytes = self.held.share(alloc)?;
+        let bytes = self.bytes.share(alloc)?;
         Ok(MemReader::new(
             alloc,
             bytes,
-            self.gathered,
-            self.concurrent,
+            self.distance,
+            self.max_read_size,
+            self.concurrency,
             Vec::new(alloc),
         )?)
     }

@@ -1,6 +1,8 @@
 //! Streams over memory.
-ghost use Rattle.std.specs.Prelude.{◌≡◌, ℕ, [], true, false};
-ghost use Rattle.vx_base.specs.Counts.{Rises};
+ghost use Rattle.std.specs.Prelude.{◌≡◌, ◌⊎◌, [], true, false, length, OnOk, IfOk};
+ghost use Rattle.vx_base.specs.Memory.{MemSourceState, MemSinkState, source_state, sink_state, read_count, after_read, counted, is_failing, is_empty};
+ghost use Rattle.vx_base.specs.Counts.{Rises, next_count};
+ghost use Rattle.vx_base.specs.Streams.{ReadCause, SameSource, WriteCause, FlushCause, SameSink};
 
 use crate::{Failed, Sink, SinkError, Source};
 use std::alloc::Global;
@@ -11,51 +13,52 @@ use std::marker::Model;
 pub struct MemSource {
     bytes: Vec<u8>,
     at: usize,
-    failing: Vec<u64>,
-    reads: u64,
-    failures: u64,
+    fail: Vec<u64>,
+    calls: u64,
+    faults: u64,
 }
 
 impl Model for MemSource {
     ghost use Rattle.std.specs.Prelude.{◌≤◌, drop, length};
-    ghost use Rattle.vx_base.specs.Streams.{MemSourcing};
+    ghost use Rattle.vx_base.specs.Memory.{MemSourceState};
 
-    ghost Value = { MemSourcing };
+    ghost Value = { MemSourceState };
 
-    ghost view = { λ s. record { rest = drop s.at s.bytes.items; fail = s.failing.items; calls = s.reads; faults = s.failures } };
+    ghost view = { λ s. record { rest = drop s.at s.bytes.items; fail = s.fail.items; calls = s.calls; faults = s.faults } };
 
     ghost invariant = { λ s. s.at ≤ length s.bytes.items };
 }
 
 impl MemSource {
-    ghost use Rattle.vx_base.specs.Streams.{MemSourcing};
-
-    /// A stream of these bytes, whose reads at these places, from 0, fail.
+    /// A stream of these bytes, whose reads at these places, from 0, fail. With no place it never
+    /// fails.
     pub fn new(bytes: Vec<u8>, fail: Vec<u64>) -> MemSource
         ensures { result ≡ record { rest = bytes.items; fail = fail.items; calls = 0; faults = 0 } }
     {
         MemSource {
             bytes,
             at: 0,
-            failing: fail,
-            reads: 0,
-            failures: 0,
+            fail,
+            calls: 0,
+            faults: 0,
         }
     }
 }
 
 impl Source for MemSource {
-    ghost use Rattle.std.specs.Prelude.{Some};
+    ghost state = { source_state };
 
-    ghost rest = { λ s. Some s.rest };
-
-    ghost faults = { λ s. s.faults };
-
-    fn read(&mut self, into: &mut [u8]) -> Result<usize, Failed> {
-        let place = self.reads;
-        self.reads = place.saturating_add(1);
-        if self.failing.contains(&place) {
-            self.failures = self.failures.saturating_add(1);
+    fn read(&mut self, into: &mut [u8]) -> Result<usize, Failed>
+        ensures cause { ReadCause into.old into.new (source_state self.old) (source_state self.new) result }
+        ensures same { SameSource (source_state self.old) (source_state self.new) }
+        // Exactly the reads at the chosen places fail.
+        ensures count { result ≡ read_count (length into.old) self.old }
+        ensures after { self.new ≡ after_read (length into.old) self.old }
+    {
+        let place = self.calls;
+        self.calls = place.saturating_add(1);
+        if self.fail.contains(&place) {
+            self.faults = self.faults.saturating_add(1);
             return Err(Failed);
         }
         let count = into.len().min(self.bytes.len() - self.at);
@@ -69,33 +72,34 @@ impl Source for MemSource {
 #[derive(Drop)]
 pub struct MemSink {
     bytes: Vec<u8>,
-    failing: Vec<u64>,
-    calls_made: u64,
-    failures: u64,
-    starved: u64,
+    is_flushed: bool,
+    fail: Vec<u64>,
+    calls: u64,
+    faults: u64,
+    memory_faults: u64,
 }
 
 impl Model for MemSink {
-    ghost use Rattle.vx_base.specs.Streams.{MemSinking};
+    ghost use Rattle.vx_base.specs.Memory.{MemSinkState};
 
-    ghost Value = { MemSinking };
+    ghost Value = { MemSinkState };
 
-    ghost view = { λ s. record { gained = s.bytes.items; fail = s.failing.items; calls = s.calls_made; faults = s.failures; without_memory = s.starved } };
+    ghost view = { λ s. record { gained = s.bytes.items; is_flushed = s.is_flushed; fail = s.fail.items; calls = s.calls; faults = s.faults; memory_faults = s.memory_faults } };
 }
 
 impl MemSink {
-    ghost use Rattle.vx_base.specs.Streams.{MemSinking};
-
-    /// A stream that took nothing yet, whose writes and flushes at these places, from 0, fail.
+    /// A stream that took nothing yet, whose writes and flushes at these places, from 0, fail. With no
+    /// place it never fails.
     pub fn new(alloc: Global, fail: Vec<u64>) -> MemSink
-        ensures { result ≡ record { gained = []; fail = fail.items; calls = 0; faults = 0; without_memory = 0 } }
+        ensures { result ≡ record { gained = []; is_flushed = true; fail = fail.items; calls = 0; faults = 0; memory_faults = 0 } }
     {
         MemSink {
             bytes: Vec::new(alloc),
-            failing: fail,
-            calls_made: 0,
-            failures: 0,
-            starved: 0,
+            is_flushed: true,
+            fail,
+            calls: 0,
+            faults: 0,
+            memory_faults: 0,
         }
     }
 
@@ -103,29 +107,24 @@ impl MemSink {
     pub fn into_bytes(self) -> Vec<u8>
         ensures { result.items ≡ self.gained }
     {
-        let MemSink {
-            bytes,
-            failing: _,
-            calls_made: _,
-            failures: _,
-            starved: _,
-        } = self;
-        bytes
+        self.bytes
     }
 
     // Whether this call fails, which is then counted.
+    #[tactic(auto, using(crate::proofs::MemoryLemmas::empty_failing))]
     fn fails(&mut self) -> bool
-        ensures kept { self.new.gained ≡ self.old.gained }
-        ensures same_places { self.new.fail ≡ self.old.fail }
-        ensures same_memory { self.new.without_memory ≡ self.old.without_memory }
-        ensures none { self.old.fail ≡ [] → result ≡ false }
-        ensures failed { result ≡ true → Rises 1 self.old.faults self.new.faults }
-        ensures fine { result ≡ false → self.new.faults ≡ self.old.faults }
+        ensures value { result ≡ is_failing self.old.fail self.old.calls }
+        ensures after { self.new ≡ counted self.old }
+        ensures same { SameSink (sink_state self.old) (sink_state self.new) }
+        ensures rises { result ≡ true → Rises 1 self.old.faults self.new.faults }
+        ensures kept { (self.new.gained ≡ self.old.gained) × (self.new.fail ≡ self.old.fail) }
+        ensures still { result ≡ false → self.new ≡ record self.old { calls = next_count self.old.calls } }
+        ensures sound { is_empty self.old.fail ≡ true → result ≡ false }
     {
-        let place = self.calls_made;
-        self.calls_made = place.saturating_add(1);
-        if self.failing.contains(&place) {
-            self.failures = self.failures.saturating_add(1);
+        let place = self.calls;
+        self.calls = place.saturating_add(1);
+        if self.fail.contains(&place) {
+            self.faults = self.faults.saturating_add(1);
             return true;
         }
         false
@@ -133,32 +132,44 @@ impl MemSink {
 }
 
 impl Sink for MemSink {
-    ghost use Rattle.std.specs.Prelude.{Some};
-    ghost use Rattle.vx_base.specs.Streams.{is_empty};
+    ghost state = { sink_state };
 
-    ghost gained = { λ s. Some s.gained };
-
-    ghost faults = { λ s. s.faults };
-
-    ghost without_memory = { λ s. s.without_memory };
-
-    ghost never_fails = { λ s. is_empty s.fail };
-
-    fn write(&mut self, alloc: Global, piece: &[u8]) -> Result<usize, SinkError> {
+    fn write(&mut self, alloc: Global, piece: &[u8]) -> Result<usize, SinkError>
+        ensures cause { WriteCause piece.now (sink_state self.old) (sink_state self.new) result }
+        ensures same { SameSink (sink_state self.old) (sink_state self.new) }
+        // A piece is taken whole, and exactly the calls at the chosen places fail.
+        ensures whole { IfOk result (λ n. n ≡ length piece.now) }
+        ensures failed { result ≡ Err SinkError.Failed → is_failing self.old.fail self.old.calls ≡ true }
+        ensures fails { is_failing self.old.fail self.old.calls ≡ true → result ≡ Err SinkError.Failed }
+        ensures unflushed { OnOk result (self.new.is_flushed ≡ false) }
+    {
         let _ = alloc;
         if self.fails() {
             return Err(SinkError::Failed);
         }
         match self.bytes.extend_from_slice(piece) {
-            Ok(()) => Ok(piece.len()),
+            Ok(()) => {
+                self.is_flushed = false;
+                Ok(piece.len())
+            }
             Err(_) => {
-                self.starved = self.starved.saturating_add(1);
+                self.memory_faults = self.memory_faults.saturating_add(1);
                 Err(SinkError::OutOfMemory)
             }
         }
     }
 
-    fn flush(&mut self) -> Result<(), Failed> {
-        if self.fails() { Err(Failed) } else { Ok(()) }
+    fn flush(&mut self) -> Result<(), Failed>
+        ensures cause { FlushCause (sink_state self.old) (sink_state self.new) result }
+        ensures same { SameSink (sink_state self.old) (sink_state self.new) }
+        // Exactly the calls at the chosen places fail.
+        ensures failed { result ≡ Err (record {}) → is_failing self.old.fail self.old.calls ≡ true }
+        ensures fails { is_failing self.old.fail self.old.calls ≡ true → result ≡ Err (record {}) }
+    {
+        if self.fails() {
+            return Err(Failed);
+        }
+        self.is_flushed = true;
+        Ok(())
     }
 }

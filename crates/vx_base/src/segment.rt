@@ -26,10 +26,3 @@ impl SegmentSpec {
 /// The number of a segment.
 #[derive(Clone, Copy, Debug, PartialEq, Eq, PartialOrd, Ord)]
 pub struct SegmentId(pub u32);
-
-/// How reads are gathered: up to `distance` bytes of gap, and spans of up to `max_size` bytes.
-#[derive(Clone, Copy, Debug, PartialEq, Eq)]
-pub struct CoalesceConfig {
-    pub distance: u64,
-    pub max_size: u64,
-}

@@ -45,30 +45,28 @@ fn write_some<W: Write>(inner: &mut W, piece: &[u8]) -> Option<usize>
 #[derive(Drop)]
 pub struct StdSource<R: Read + Drop> {
     inner: R,
-    failures: u64,
+    faults: u64,
 }
 
 impl<R: Read + Drop> StdSource<R> {
     /// A stream over a reader of std.
     pub fn new(inner: R) -> StdSource<R>
-        ensures { ⟦<StdSource<R> as Source>⟧.faults result ≡ 0 }
+        ensures { (⟦<StdSource<R> as Source>⟧.state result).faults ≡ 0 }
     {
-        StdSource { inner, failures: 0 }
+        StdSource { inner, faults: 0 }
     }
 }
 
 impl<R: Read + Drop> Source for StdSource<R> {
-    ghost use Rattle.std.specs.Prelude.{None};
+    ghost use Rattle.std.specs.Prelude.{None, false};
 
-    ghost rest = { λ _. None };
-
-    ghost faults = { λ s. s.failures };
+    ghost state = { λ s. record { rest = None; never_fails = false; faults = s.faults } };
 
     fn read(&mut self, into: &mut [u8]) -> Result<usize, Failed> {
         match read_some(&mut self.inner, into) {
             Some(count) => Ok(count),
             None => {
-                self.failures = self.failures.saturating_add(1);
+                self.faults = self.faults.saturating_add(1);
                 Err(Failed)
             }
         }
@@ -79,35 +77,43 @@ impl<R: Read + Drop> Source for StdSource<R> {
 #[derive(Drop)]
 pub struct StdSink<W: Write + Drop> {
     inner: W,
-    failures: u64,
+    is_flushed: bool,
+    faults: u64,
 }
 
 impl<W: Write + Drop> StdSink<W> {
     /// A stream over a writer of std.
     pub fn new(inner: W) -> StdSink<W>
-        ensures { ⟦<StdSink<W> as Sink>⟧.faults result ≡ 0 }
+        ensures { (⟦<StdSink<W> as Sink>⟧.state result).faults ≡ 0 }
     {
-        StdSink { inner, failures: 0 }
+        StdSink {
+            inner,
+            is_flushed: true,
+            faults: 0,
+        }
     }
 }
 
 impl<W: Write + Drop> Sink for StdSink<W> {
     ghost use Rattle.std.specs.Prelude.{None, false};
 
-    ghost gained = { λ _. None };
-
-    ghost faults = { λ s. s.failures };
-
-    ghost without_memory = { λ _. 0 };
-
-    ghost never_fails = { λ _. false };
+    ghost state = { λ s. record {
+      gained = None;
+      is_flushed = s.is_flushed;
+      never_fails = false;
+      faults = s.faults;
+      memory_faults = 0;
+    } };
 
     fn write(&mut self, alloc: Global, piece: &[u8]) -> Result<usize, SinkError> {
         let _ = alloc;
         match write_some(&mut self.inner, piece) {
-            Some(count) => Ok(count),
+            Some(count) => {
+                self.is_flushed = false;
+                Ok(count)
+            }
             None => {
-                self.failures = self.failures.saturating_add(1);
+                self.faults = self.faults.saturating_add(1);
                 Err(SinkError::Failed)
             }
         }
@@ -115,9 +121,12 @@ impl<W: Write + Drop> Sink for StdSink<W> {
 
     fn flush(&mut self) -> Result<(), Failed> {
         match self.inner.flush() {
-            Ok(()) => Ok(()),
+            Ok(()) => {
+                self.is_flushed = true;
+                Ok(())
+            }
             Err(_) => {
-                self.failures = self.failures.saturating_add(1);
+                self.faults = self.faults.saturating_add(1);
                 Err(Failed)
             }
         }

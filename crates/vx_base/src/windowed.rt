@@ -1,32 +1,40 @@
-//! A reader with another window and concurrency.
-ghost use Rattle.std.specs.Prelude.{◌≡◌, ℕ, ◌≤◌};
+//! A reader with other settings.
+ghost use Rattle.std.specs.Prelude.{◌≡◌, ◌≤◌};
 
-use crate::{CloneError, CoalesceConfig, Failed, RangeAnswer, ReadAtRequest, Reader};
+use crate::{CloneError, Failed, RangeAnswer, ReadAtRequest, Reader};
 use std::alloc::{AllocError, Global};
 
-/// A reader in the place of another, with a window and a concurrency of its own.
+/// A reader in the place of another, with a distance, a read limit and a concurrency of its own.
 #[derive(Drop)]
 pub struct WithWindow<R: Reader> {
     inner: R,
-    gathered: Option<CoalesceConfig>,
-    concurrent: usize,
-    ghost some: { 1 ≤ concurrent },
-    ghost fewer: { concurrent ≤ R.most inner },
+    distance: Option<u64>,
+    max_read_size: Option<u64>,
+    concurrency: usize,
+    ghost some: { 1 ≤ concurrency },
+    ghost fewer: { concurrency ≤ (R.state inner).concurrency },
 }
 
 impl<R: Reader> WithWindow<R> {
     /// A reader of the same bytes, which asks the inner one at most as many ranges as that allows.
-    pub fn new(inner: R, window: Option<CoalesceConfig>, concurrency: usize) -> WithWindow<R>
+    pub fn new(
+        inner: R,
+        distance: Option<u64>,
+        max_read_size: Option<u64>,
+        concurrency: usize,
+    ) -> WithWindow<R>
         requires some { 1 ≤ concurrency }
-        requires fewer { concurrency ≤ R.most inner }
+        requires fewer { concurrency ≤ (R.state inner).concurrency }
         ensures inner { result.inner ≡ inner }
-        ensures window { result.gathered ≡ window }
-        ensures concurrency { result.concurrent ≡ concurrency }
+        ensures distance { result.distance ≡ distance }
+        ensures max_read_size { result.max_read_size ≡ max_read_size }
+        ensures concurrency { result.concurrency ≡ concurrency }
     {
         WithWindow {
             inner,
-            gathered: window,
-            concurrent: concurrency,
+            distance,
+            max_read_size,
+            concurrency,
         }
     }
 
@@ -36,25 +44,16 @@ impl<R: Reader> WithWindow<R> {
     {
         let WithWindow {
             inner,
-            gathered: _,
-            concurrent: _,
+            distance: _,
+            max_read_size: _,
+            concurrency: _,
         } = self;
         inner
     }
 }
 
 impl<R: Reader> Reader for WithWindow<R> {
-    ghost bytes = { λ r. R.bytes r.inner };
-
-    ghost log = { λ r. R.log r.inner };
-
-    ghost faults = { λ r. R.faults r.inner };
-
-    ghost most = { λ r. r.concurrent };
-
-    ghost window_of = { λ r. r.gathered };
-
-    ghost never_fails = { λ r. R.never_fails r.inner };
+    ghost state = { λ r. record (R.state r.inner) { distance = r.distance; max_read_size = r.max_read_size; concurrency = r.concurrency } };
 
     fn size(&mut self) -> Result<u64, Failed> {
         self.inner.size()
@@ -68,12 +67,16 @@ impl<R: Reader> Reader for WithWindow<R> {
         self.inner.read_ranges(alloc, asked)
     }
 
-    fn window(&self) -> Option<CoalesceConfig> {
-        self.gathered
+    fn coalesce_distance(&self) -> Option<u64> {
+        self.distance
+    }
+
+    fn max_read_size(&self) -> Option<u64> {
+        self.max_read_size
     }
 
     fn concurrency(&self) -> usize {
-        self.concurrent
+        self.concurrency
     }
 
     fn uri(&self) -> Option<&str> {
@@ -84,8 +87,9 @@ impl<R: Reader> Reader for WithWindow<R> {
         let inner = self.inner.try_clone(alloc)?;
         Ok(WithWindow {
             inner,
-            gathered: self.gathered,
-            concurrent: self.concurrent,
+            distance: self.distance,
+            max_read_size: self.max_read_size,
+            concurrency: self.concurrency,
         })
     }
 }

@@ -1,8 +1,7 @@
 //! Writes bytes whole, in as many turns as a sink takes.
-ghost use Rattle.std.specs.Prelude.{◌≡◌, ◌≤◌, length, drop, true, OnOk, OnErr};
+ghost use Rattle.std.specs.Prelude.{◌≡◌, ◌≤◌, [], length, drop, true, OnOk};
 ghost use Rattle.std.specs.List.{flat_map};
-ghost use Rattle.vx_base.specs.Counts.{Rises};
-ghost use Rattle.vx_base.specs.Taking.{Took, TookPrefix};
+ghost use Rattle.vx_base.specs.Streams.{SameSink, WritesAll};
 
 use crate::{Sink, SinkError};
 use std::alloc::Global;
@@ -17,15 +16,8 @@ fn rest_of(bytes: &[u8], n: usize) -> &[u8]
 
 /// Writes bytes. After an error a prefix of them was taken.
 pub fn write_all<S: Sink>(alloc: Global, sink: &mut S, bytes: &[u8]) -> Result<(), SinkError>
-    ensures took { OnOk result (Took bytes.now (S.gained sink.old) (S.gained sink.new)) }
-    ensures prefix { OnErr result (TookPrefix bytes.now (S.gained sink.old) (S.gained sink.new)) }
-    ensures failed { result ≡ Err SinkError.Failed → Rises 1 (S.faults sink.old) (S.faults sink.new) }
-    ensures wanted { result ≡ Err SinkError.OutOfMemory →
-        Rises 1 (S.without_memory sink.old) (S.without_memory sink.new) }
-    ensures sound { S.never_fails sink.old ≡ true → result ≡ Err SinkError.Failed → ⊥ }
-    ensures never_falls { S.faults sink.old ≤ S.faults sink.new }
-    ensures wanted_never_falls { S.without_memory sink.old ≤ S.without_memory sink.new }
-    ensures same_soundness { S.never_fails sink.new ≡ S.never_fails sink.old }
+    ensures written { WritesAll bytes.now (S.state sink.old) (S.state sink.new) result }
+    ensures same { SameSink (S.state sink.old) (S.state sink.new) }
 {
     let mut rest = bytes;
     while !rest.is_empty() {
@@ -38,15 +30,8 @@ pub fn write_all<S: Sink>(alloc: Global, sink: &mut S, bytes: &[u8]) -> Result<(
 /// Writes pieces one behind the other, without a copy of them. After an error a prefix of them was
 /// taken.
 pub fn write_pieces<S: Sink>(alloc: Global, sink: &mut S, pieces: &[&[u8]]) -> Result<(), SinkError>
-    ensures took { OnOk result (Took (flat_map (λ piece. piece.now) pieces.now) (S.gained sink.old) (S.gained sink.new)) }
-    ensures prefix { OnErr result (TookPrefix (flat_map (λ piece. piece.now) pieces.now) (S.gained sink.old) (S.gained sink.new)) }
-    ensures failed { result ≡ Err SinkError.Failed → Rises 1 (S.faults sink.old) (S.faults sink.new) }
-    ensures wanted { result ≡ Err SinkError.OutOfMemory →
-        Rises 1 (S.without_memory sink.old) (S.without_memory sink.new) }
-    ensures sound { S.never_fails sink.old ≡ true → result ≡ Err SinkError.Failed → ⊥ }
-    ensures never_falls { S.faults sink.old ≤ S.faults sink.new }
-    ensures wanted_never_falls { S.without_memory sink.old ≤ S.without_memory sink.new }
-    ensures same_soundness { S.never_fails sink.new ≡ S.never_fails sink.old }
+    ensures written { WritesAll (flat_map (λ piece. piece.now) pieces.now) (S.state sink.old) (S.state sink.new) result }
+    ensures same { SameSink (S.state sink.old) (S.state sink.new) }
 {
     for piece in pieces {
         write_all(alloc, sink, piece)?;
@@ -56,13 +41,9 @@ pub fn write_pieces<S: Sink>(alloc: Global, sink: &mut S, pieces: &[&[u8]]) -> R
 
 /// Flushes a sink.
 fn flush<S: Sink>(sink: &mut S) -> Result<(), SinkError>
-    ensures kept { S.gained sink.new ≡ S.gained sink.old }
-    ensures memory { result ≡ Err SinkError.OutOfMemory → ⊥ }
-    ensures failed { result ≡ Err SinkError.Failed → Rises 1 (S.faults sink.old) (S.faults sink.new) }
-    ensures sound { S.never_fails sink.old ≡ true → result ≡ Err SinkError.Failed → ⊥ }
-    ensures never_falls { S.faults sink.old ≤ S.faults sink.new }
-    ensures wanted_never_falls { S.without_memory sink.old ≤ S.without_memory sink.new }
-    ensures same_soundness { S.never_fails sink.new ≡ S.never_fails sink.old }
+    ensures written { WritesAll [] (S.state sink.old) (S.state sink.new) result }
+    ensures flushed { OnOk result ((S.state sink.new).is_flushed ≡ true) }
+    ensures same { SameSink (S.state sink.old) (S.state sink.new) }
 {
     match sink.flush() {
         Ok(()) => Ok(()),
@@ -72,15 +53,9 @@ fn flush<S: Sink>(sink: &mut S) -> Result<(), SinkError>
 
 /// Writes bytes and flushes. After an error a prefix of them was taken.
 pub fn write_flushed<S: Sink>(alloc: Global, sink: &mut S, bytes: &[u8]) -> Result<(), SinkError>
-    ensures took { OnOk result (Took bytes.now (S.gained sink.old) (S.gained sink.new)) }
-    ensures prefix { OnErr result (TookPrefix bytes.now (S.gained sink.old) (S.gained sink.new)) }
-    ensures failed { result ≡ Err SinkError.Failed → Rises 1 (S.faults sink.old) (S.faults sink.new) }
-    ensures wanted { result ≡ Err SinkError.OutOfMemory →
-        Rises 1 (S.without_memory sink.old) (S.without_memory sink.new) }
-    ensures sound { S.never_fails sink.old ≡ true → result ≡ Err SinkError.Failed → ⊥ }
-    ensures never_falls { S.faults sink.old ≤ S.faults sink.new }
-    ensures wanted_never_falls { S.without_memory sink.old ≤ S.without_memory sink.new }
-    ensures same_soundness { S.never_fails sink.new ≡ S.never_fails sink.old }
+    ensures written { WritesAll bytes.now (S.state sink.old) (S.state sink.new) result }
+    ensures flushed { OnOk result ((S.state sink.new).is_flushed ≡ true) }
+    ensures same { SameSink (S.state sink.old) (S.state sink.new) }
 {
     write_all(alloc, sink, bytes)?;
     flush(sink)

@@ -1,5 +1,5 @@
 -- What stands for a history before a call stands for the longer one after it.
-use Rattle.std.proofs.Common.{◌≡◌, ◌≢◌, ℕ, zero, suc, ◌+◌, ◌-◌, ◌<◌, ◌≤◌, Bool, true, false, cond, List, [], ◌∷◌, ◌++◌, length, drop, take, Option, Some, None, Result, Ok, Err, refl, sym, ap, subst, ◌∙◌, arith, inl, inr, length-append, append_assoc}
+use Rattle.std.proofs.Common.{◌≡◌, ◌≢◌, ℕ, zero, suc, ◌+◌, ◌-◌, ◌<◌, ◌≤◌, Bool, true, false, cond, List, [], ◌∷◌, ◌++◌, length, drop, take, Option, Some, None, Result, Ok, Err, refl, sym, ap, subst, ◌∙◌, arith, inl, inr, ◌⊎◌, length-append, append_assoc}
 use Rattle.std.specs.Prelude.{slice_get, slice_set, ◌||◌, ◌&&◌, ◌==◌, nat_le, not, is_none}
 use Rattle.std.proofs.Math.ListN.{length-set}
 use Rattle.std.specs.Option.{option_map, option_and_then}
@@ -7,6 +7,9 @@ use Rattle.std.proofs.lemmas.Bool.Decides.{nat_tests}
 use Rattle.std.proofs.lemmas.Option.{slice_get_within}
 use Rattle.std.proofs.lemmas.List.{drop-drop, append-nil}
 use Rattle.vx_base.specs.Buffer.{Buffer, bytes_at}
+use Rattle.vx_base.specs.Asking.{Log, ranges_of}
+use Rattle.vx_base.specs.declared.answer.ReadAtRequest.{ReadAtRequest}
+use Rattle.vx_file.specs.Turns.{IsFurther}
 use Rattle.vx_base.specs.declared.segment.SegmentSpec.{SegmentSpec}
 use Rattle.vx_file.specs.declared.request.Request.{Request}
 use Rattle.vx_file.specs.declared.request.RequestState.{RequestState}
@@ -15,13 +18,13 @@ use Rattle.vx_file.specs.declared.step.Step.{Step}
 use Rattle.vx_file.specs.declared.step.Step.TheVariants.{Register, Poll, Drive}
 use Rattle.vx_file.specs.declared.reply.Reply.{Reply}
 use Rattle.vx_file.specs.declared.reply.Reply.TheVariants.{Registered, MissingSegment, Ready, Pending, Failed, NotLive, Driven}
-use Rattle.vx_file.specs.declared.fault.Fault.{Fault}
-use Rattle.vx_file.specs.declared.fault.Place.TheVariants.{Range}
+use Rattle.vx_sched.specs.declared.fault.Fault.{Fault}
+use Rattle.vx_sched.specs.declared.fault.Place.TheVariants.{Range}
 use Rattle.vx_file.specs.declared.span.Span.{Span}
 use Rattle.vx_file.specs.declared.span.SpanOutcome.{SpanOutcome}
 use Rattle.vx_file.specs.declared.span.SpanOutcome.TheVariants.{Good, Bad}
 use Rattle.vx_file.specs.History.{Moment, moment, makes, made, ends, polls, outcome_in, outcome_of, spans_in, first_of, is_live, is_polled, is_held, segment_of}
-use Rattle.vx_file.specs.Fits.{World, spec_of, slice_of, covers, is_due, Merges, Drives, IsRow, is_good, NamesRange}
+use Rattle.vx_file.specs.Fits.{World, spec_of, slice_of, covers, is_due, Merges, Drives, Turns, after, IsRow, is_good, NamesRange}
 use Rattle.vx_file.specs.Kept.{Kept, cut, fresh, with_request, with_state, poll_reply, polled_state, PollsRequest, Polls, is_due_at, is_due_request, is_polled_state, IsNext, read_state, outcome_read}
 use Rattle.vx_file.specs.Stands.{Words, words, MatchesState, Matches, Unmade, Stands}
 use Rattle.vx_file.proofs.Requests.{get-push_last, get-push_other, get-set_same, get-set_other, same_or_not}
@@ -233,7 +236,7 @@ due-is w past k n st = due-at w past k n (slice_get k.requests n) st refl
 
 -- the span of one read
 abbrev pub span_of : ℕ → Request → SpanOutcome → Span
-span_of n r outcome = record { start = r.spec.offset; end = r.end; reads = n ∷ []; outcome = outcome }
+span_of n r outcome = record { start = r.spec.offset; end = r.end; alignment = r.spec.alignment; reads = n ∷ []; outcome = outcome }
 
 -- what was read of a segment is its slice, and a fault names its range
 abbrev pub IsReadOf : List ℕ → SegmentSpec → Result Buffer Fault → Type 0
@@ -279,6 +282,7 @@ drive-moves w past k n r read st next got h =
         found = there.spec;
         start = refl;
         end = there.end;
+        alignment = refl;
         place = names-range w.file r.spec read h;
       },
       stands-set w past (driven n r (outcome_read read) past) k n r (read_state r.spec read) st got (sym (made-same past 0 refl))
@@ -287,10 +291,6 @@ drive-moves w past k n r read st next got h =
     )
 
 -- ---- the spans of one drive are as good as one drive for each
-
-abbrev pub after : List Span → List Moment → List Moment
-after [] past = past
-after (span ∷ spans) past = after spans (moment Drive (Driven (span ∷ [])) ∷ past)
 
 first_of-assoc : (a b c : Option SpanOutcome) → first_of (first_of a b) c ≡ first_of a (first_of b c)
 first_of-assoc None b c = refl
@@ -318,9 +318,14 @@ after-append (s ∷ spans) span past = after-append spans span (moment Drive (Dr
 pub record Driving (w : World) (past : List Moment) (spans : List Span) (k : Kept) : Type 0 where
   pub stands : Stands w (after spans past) k
   pub completes : (rest : List Span) → Drives w (after spans past) rest → Drives w past (spans ++ rest)
+  pub turns : Turns w past spans
+
+turns-append : (w : World) (past : List Moment) (spans : List Span) (span : Span) → Turns w past spans → Merges w (after spans past) span → Turns w past (spans ++ span ∷ [])
+turns-append w past [] span h merges = (merges, tt)
+turns-append w past (s ∷ spans) span h merges = (h.0, turns-append w (moment Drive (Driven (s ∷ [])) ∷ past) spans span h.1 merges)
 
 pub driving-starts : (w : World) (past : List Moment) (k : Kept) → Stands w past k → Driving w past [] k
-driving-starts w past k st = record { stands = st; completes = λ rest h. h }
+driving-starts w past k st = record { stands = st; completes = λ rest h. h; turns = tt }
 
 pub driving-goes_on : (w : World) (past : List Moment) (spans : List Span) (span : Span) (k k' : Kept) → Driving w past spans k → Merges w (after spans past) span
     → Stands w (moment Drive (Driven (span ∷ [])) ∷ after spans past) k' → Driving w past (spans ++ span ∷ []) k'
@@ -329,9 +334,26 @@ driving-goes_on w past spans span k k' h merges st =
     record {
       stands = subst (λ p. Stands w p k') (sym e) st;
       completes = λ rest drives. subst (Drives w past) (sym (append_assoc spans (span ∷ []) rest)) (h.completes (span ∷ rest) (merges, subst (λ p. Drives w p rest) e drives));
+      turns = turns-append w past spans span h.turns merges;
     }
 
 pub driving-ends : (w : World) (past : List Moment) (spans : List Span) (k : Kept) → Driving w past spans k → ((n : ℕ) → is_due_at k.requests n ≡ false)
     → Drives w past spans × Stands w (moment Drive (Driven spans) ∷ past) k
 driving-ends w past spans k h none =
     (subst (Drives w past) (append-nil spans) (h.completes [] (λ n. due-is w (after spans past) k n h.stands ∙ none n)), after-drives w spans past k h.stands)
+
+-- ---- the range of the next read
+
+-- what is asked of a reader for a request
+abbrev pub range_of : SegmentSpec → ReadAtRequest
+range_of s = record { offset = s.offset; length = s.length; alignment = s.alignment }
+
+pub further-is : (w : World) (past : List Moment) (k : Kept) (n : ℕ) (r : Request) (further : Log) → Stands w past k → IsNext k n → slice_get k.requests n ≡ Some r
+    → (ranges_of further ≡ []) ⊎ (ranges_of further ≡ range_of r.spec ∷ []) → IsFurther w past further
+further-is w past k n r further st next got h = elim h [
+  | inl none ↦ inl none
+  | inr one ↦
+      let slice : Buffer = record { bytes = bytes_at w.file r.spec.offset r.spec.length; alignment = r.spec.alignment } in
+      let size : r.spec.length ≡ r.end - r.spec.offset = omega (arith, (st.each n r got).end) in
+      inr (span_of n r Good, (drive-moves w past k n r (Ok slice) st next got refl).0, one ∙ ap (λ m. let range : ReadAtRequest = record { offset = r.spec.offset; length = m; alignment = r.spec.alignment } in range ∷ []) size)
+]

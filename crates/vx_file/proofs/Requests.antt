@@ -7,7 +7,7 @@ use Rattle.vx_file.specs.declared.request.Request.{Request}
 use Rattle.vx_file.specs.Queue.{is_in}
 use Rattle.vx_base.specs.Buffer.{Buffer}
 use Rattle.vx_base.specs.declared.segment.SegmentSpec.{SegmentSpec}
-use Rattle.vx_file.specs.declared.fault.Fault.{Fault}
+use Rattle.vx_sched.specs.declared.fault.Fault.{Fault}
 use Rattle.vx_file.specs.Kept.{Kept, with_state, read_state, is_due_at, is_due_request, is_polled_state, is_waiting_state, polled_state, poll_reply, Polls, PollsRequest, IsTied}
 use Rattle.vx_file.specs.declared.request.RequestState.{RequestState}
 use Rattle.vx_file.specs.declared.request.RequestState.TheVariants as states

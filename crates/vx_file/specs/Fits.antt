@@ -4,7 +4,7 @@ use Rattle.std.specs.Option.{option_map, option_map_or, option_and_then}
 use Rattle.vx_base.specs.Buffer.{Buffer, bytes_at}
 use Rattle.vx_base.specs.declared.segment.SegmentSpec.{SegmentSpec}
 use Rattle.vx_footer.specs.Opening.{EndsWithin}
-use Rattle.vx_file.specs.declared.fault.Place.TheVariants.{Range}
+use Rattle.vx_sched.specs.declared.fault.Place.TheVariants.{Range}
 use Rattle.vx_file.specs.declared.step.Step.{Step}
 use Rattle.vx_file.specs.declared.step.Step.TheVariants.{Register, Poll, Drive}
 use Rattle.vx_file.specs.declared.reply.Reply.{Reply}
@@ -47,7 +47,7 @@ abbrev pub NamesRange : SegmentSpec → SpanOutcome → Type 0
 NamesRange s Good = Unit {0}
 NamesRange s (Bad fault) = fault.place ≡ Range s.offset s.length
 
--- a span reads the least read that is due, alone and exactly
+-- a span reads the least read that is due, alone and exactly, with the alignment that its segment claims
 pub record Merges (w : World) (past : List Moment) (span : Span) : Type 0 where
   pub read : ℕ
   pub spec : SegmentSpec
@@ -57,12 +57,23 @@ pub record Merges (w : World) (past : List Moment) (span : Span) : Type 0 where
   pub found : spec_of w past read ≡ Some spec
   pub start : span.start ≡ spec.offset
   pub end : span.end ≡ spec.offset + spec.length
+  pub alignment : span.alignment ≡ spec.alignment
   pub place : NamesRange spec span.outcome
 
 -- each span merges from what the earlier ones leave, until no read is due
 abbrev pub Drives : World → List Moment → List Span → Type 0
 Drives w past [] = (n : ℕ) → is_due past n ≡ false
 Drives w past (span ∷ spans) = Merges w past span × Drives w (moment Drive (Driven (span ∷ [])) ∷ past) spans
+
+-- each span merges from what the earlier ones leave
+abbrev pub Turns : World → List Moment → List Span → Type 0
+Turns w past [] = Unit {0}
+Turns w past (span ∷ spans) = Merges w past span × Turns w (moment Drive (Driven (span ∷ [])) ∷ past) spans
+
+-- the history after these spans of a drive
+abbrev pub after : List Span → List Moment → List Moment
+after [] past = past
+after (span ∷ spans) past = after spans (moment Drive (Driven (span ∷ [])) ∷ past)
 
 -- ---- the rows
 

@@ -2,7 +2,7 @@
 use Rattle.std.specs.Prelude.{◌≡◌, ℕ, ◌+◌, ◌-◌, ◌<◌, Bool, true, false, nat_le, if◌then◌else◌, List, [], ◌∷◌, ◌++◌, Option, Some, None, slice_get, slice_set, Result, Ok, Err}
 use Rattle.vx_base.specs.Buffer.{Buffer, bytes_at}
 use Rattle.vx_base.specs.declared.segment.SegmentSpec.{SegmentSpec}
-use Rattle.vx_file.specs.declared.fault.Fault.{Fault}
+use Rattle.vx_sched.specs.declared.fault.Fault.{Fault}
 use Rattle.vx_file.specs.declared.request.Request.{Request}
 use Rattle.vx_file.specs.declared.request.RequestState.{RequestState}
 use Rattle.vx_file.specs.declared.request.RequestState.TheVariants as state

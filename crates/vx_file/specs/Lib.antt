@@ -1,8 +1,7 @@
-pub mod Asked
-pub mod Asking
 pub mod Fits
 pub mod History
 pub mod Kept
+pub mod Logs
 pub mod Queue
 pub mod Serving
 pub mod Stands

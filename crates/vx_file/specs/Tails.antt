@@ -6,23 +6,23 @@ use Rattle.vx_footer.specs.Opening.{vx_grammar, IsTail}
 use Rattle.vx_file.specs.declared.serving.Tail.{Tail}
 use Rattle.vx_file.specs.declared.served.ServeError.{ServeError}
 use Rattle.vx_file.specs.declared.served.ServeError.TheVariants as errors
-use Rattle.vx_file.specs.Asked.{Grew}
-use Rattle.vx_file.specs.Asking.{Known}
-use Rattle.vx_file.specs.Serving.{SizeFault, TailFault}
+use Rattle.vx_base.specs.Readers.{ReaderState}
+use Rattle.vx_file.specs.Logs.{Grew}
+use Rattle.vx_file.specs.Serving.{opened, SizeFault, TailFault, StopsOpening}
 
 -- the tail was read
-pub record TailRead (file : List ℕ) (before now : Known) (t : Tail) : Type 0 where
+pub record TailRead (file : List ℕ) (before now : ReaderState) (t : Tail) : Type 0 where
   pub is : IsTail file t.start t.bytes.bytes
-  pub asked : Grew (record { offset = t.start; length = length t.bytes.bytes; mark = None } ∷ []) before.log now.log
+  pub asked : Grew (opened ((t.start, length t.bytes.bytes) ∷ [])) before.log now.log
   pub rises : Rises 0 before.faults now.faults
 
-abbrev pub TailCause : List ℕ → Known → Known → Result Tail ServeError → Type 0
+abbrev pub TailCause : List ℕ → ReaderState → ReaderState → Result Tail ServeError → Type 0
 TailCause file before now (Ok t) = TailRead file before now t
 TailCause file before now (Err errors.Refused) = ⊥
 TailCause file before now (Err (errors.Fault fault)) = SizeFault before now fault ⊎ TailFault file before now fault
-TailCause file before now (Err errors.OutOfMemory) = Unit {0}
+TailCause file before now (Err errors.OutOfMemory) = StopsOpening file before now
 
-abbrev pub TailRose : Known → Known → Result Tail ServeError → Type 0
+abbrev pub TailRose : ReaderState → ReaderState → Result Tail ServeError → Type 0
 TailRose before now (Ok t) = Unit {0}
 TailRose before now (Err errors.Refused) = ⊥
 TailRose before now (Err (errors.Fault fault)) = Rises 1 before.faults now.faults

@@ -1,18 +1,22 @@
 //! Drives: reads of what was polled and waits.
-ghost use Rattle.std.specs.Prelude.{◌≡◌, ◌+◌, ◌≤◌, ◌<◌, ℕ, [], List, map, true, false, Some, IfOk, IfSome, IfNone};
+ghost use Rattle.std.specs.Prelude.{◌≡◌, ◌+◌, ◌≤◌, ◌<◌, ℕ, [], List, map, true, false, Some, IfOk, IfSome, IfNone, OnErr};
 ghost use Rattle.vx_file.specs.declared.step.Step.TheVariants.{Drive};
 ghost use Rattle.vx_file.specs.declared.reply.Reply.TheVariants.{Driven};
 ghost use Rattle.vx_file.specs.History.{Moment, moment};
 ghost use Rattle.vx_file.specs.Fits.{World, IsInFile};
 ghost use Rattle.vx_file.specs.Kept.{is_due_at, outcome_read};
 ghost use Rattle.vx_file.specs.Stands.{Stands};
-ghost use Rattle.vx_file.specs.Turns.{KeepsTail, Idle, Turned, Replied, count_due};
+ghost use Rattle.vx_base.specs.Asking.{Log};
+ghost use Rattle.vx_base.specs.Readers.{SameReader};
+ghost use Rattle.vx_file.specs.Logs.{Grew};
+ghost use Rattle.vx_file.specs.Turns.{KeepsTail, Idle, Turned, Replied, count_due, IsFurther, StopsDrive};
 
-use crate::ask::ask;
+use crate::reading::read_range;
 use crate::session::Session;
-use crate::{Fault, ReadNumbers, Span, SpanOutcome, Spans};
+use crate::{Span, SpanOutcome};
 use std::alloc::{AllocError, Global};
-use vx_base::{ByteBuffer, ReadAtRequest, Reader};
+use vx_base::{ByteBuffer, ReadAtRequest, Reader, Sequence};
+use vx_sched::Fault;
 
 fn outcome_of(read: &Result<ByteBuffer, Fault>) -> SpanOutcome
     ensures { result ≡ outcome_read read.now }
@@ -29,18 +33,18 @@ fn read_next<R: Reader>(
     reader: &mut R,
     session: &mut Session,
 ) -> Result<Option<Span>, AllocError>
-    ensures turned { IfOk result (λ o. IfSome o (λ span. (w : World) (past : List Moment) → R.bytes reader.old ≡ Some w.file → Stands w past session.old →
-        Turned w past (record { bytes = R.bytes reader.old; log = R.log reader.old; faults = R.faults reader.old; never_fails = R.never_fails reader.old }) (record { bytes = R.bytes reader.new; log = R.log reader.new; faults = R.faults reader.new; never_fails = R.never_fails reader.new }) span session.new)) }
+    ensures turned { IfOk result (λ o. IfSome o (λ span. (w : World) (past : List Moment) → (R.state reader.old).bytes ≡ Some w.file → Stands w past session.old →
+        Turned w past (R.state reader.old) (R.state reader.new) span session.new)) }
+    ensures stopped { OnErr result ((w : World) (past : List Moment) → (R.state reader.old).bytes ≡ Some w.file → Stands w past session.old →
+        (further : Log) × IsFurther w past further × Grew further (R.state reader.old).log (R.state reader.new).log) }
     ensures none { IfOk result (λ o. IfNone o ((n : ℕ) → is_due_at session.old.requests n ≡ false)) }
     ensures kept { IfOk result (λ o. IfNone o (session.new ≡ session.old)) }
-    ensures idle { IfOk result (λ o. IfNone o (Idle (record { bytes = R.bytes reader.old; log = R.log reader.old; faults = R.faults reader.old; never_fails = R.never_fails reader.old })
-        (record { bytes = R.bytes reader.new; log = R.log reader.new; faults = R.faults reader.new; never_fails = R.never_fails reader.new }))) }
+    ensures idle { IfOk result (λ o. IfNone o (Idle (R.state reader.old)
+        (R.state reader.new))) }
     ensures smaller { IfOk result (λ o. IfSome o (λ _. count_due session.new.requests < count_due session.old.requests)) }
     ensures tail { KeepsTail session.old session.new }
-    ensures steady { (w : World) (past : List Moment) → R.never_fails reader.old ≡ true → R.bytes reader.old ≡ Some w.file → IsInFile w → Stands w past session.old → R.faults reader.new ≡ R.faults reader.old }
-    ensures never_falls { R.faults reader.old ≤ R.faults reader.new }
-    ensures same_bytes { R.bytes reader.new ≡ R.bytes reader.old }
-    ensures same_soundness { R.never_fails reader.new ≡ R.never_fails reader.old }
+    ensures steady { (w : World) (past : List Moment) → (R.state reader.old).never_fails ≡ true → (R.state reader.old).bytes ≡ Some w.file → IsInFile w → Stands w past session.old → (R.state reader.new).faults ≡ (R.state reader.old).faults }
+    ensures same { SameReader (R.state reader.old) (R.state reader.new) }
 {
     let Some((number, spec, end)) = session.next() else {
         return Ok(None);
@@ -50,11 +54,13 @@ fn read_next<R: Reader>(
         length: spec.length as usize,
         alignment: spec.alignment,
     };
-    let reads = ReadNumbers::one(alloc, number)?;
-    let read = ask(alloc, reader, range)?;
+    let mut reads = Sequence::new(alloc);
+    reads.push(number)?;
+    let read = read_range(alloc, reader, range)?;
     let span = Span {
         start: spec.offset,
         end,
+        alignment: spec.alignment,
         reads,
         outcome: outcome_of(&read),
     };
@@ -67,16 +73,16 @@ pub(crate) fn drive<R: Reader>(
     alloc: Global,
     reader: &mut R,
     session: &mut Session,
-) -> Result<Spans, AllocError>
-    ensures driven { IfOk result (λ spans. (w : World) (past : List Moment) → R.bytes reader.old ≡ Some w.file → Stands w past session.old →
-        Replied w past Drive (record { bytes = R.bytes reader.old; log = R.log reader.old; faults = R.faults reader.old; never_fails = R.never_fails reader.old }) (record { bytes = R.bytes reader.new; log = R.log reader.new; faults = R.faults reader.new; never_fails = R.never_fails reader.new }) (Driven spans) session.new) }
+) -> Result<Sequence<Span>, AllocError>
+    ensures driven { IfOk result (λ spans. (w : World) (past : List Moment) → (R.state reader.old).bytes ≡ Some w.file → Stands w past session.old →
+        Replied w past Drive (R.state reader.old) (R.state reader.new) (Driven spans) session.new) }
+    ensures stopped { OnErr result ((w : World) (past : List Moment) → (R.state reader.old).bytes ≡ Some w.file → Stands w past session.old →
+        (gained : Log) × StopsDrive w past gained × Grew gained (R.state reader.old).log (R.state reader.new).log) }
     ensures tail { KeepsTail session.old session.new }
-    ensures steady { (w : World) (past : List Moment) → R.never_fails reader.old ≡ true → R.bytes reader.old ≡ Some w.file → IsInFile w → Stands w past session.old → R.faults reader.new ≡ R.faults reader.old }
-    ensures never_falls { R.faults reader.old ≤ R.faults reader.new }
-    ensures same_bytes { R.bytes reader.new ≡ R.bytes reader.old }
-    ensures same_soundness { R.never_fails reader.new ≡ R.never_fails reader.old }
+    ensures steady { (w : World) (past : List Moment) → (R.state reader.old).never_fails ≡ true → (R.state reader.old).bytes ≡ Some w.file → IsInFile w → Stands w past session.old → (R.state reader.new).faults ≡ (R.state reader.old).faults }
+    ensures same { SameReader (R.state reader.old) (R.state reader.new) }
 {
-    let mut spans = Spans::new(alloc);
+    let mut spans = Sequence::new(alloc);
     while let Some(span) = read_next(alloc, reader, session)? {
         spans.push(span)?;
     }

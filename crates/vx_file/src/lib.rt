@@ -1,11 +1,9 @@
 //! Opens a file from its tail and answers scripts of requests for its segments.
 #![tactic(auto)]
 
-mod answer;
-mod ask;
 mod drive;
-mod fault;
 mod queue;
+mod reading;
 mod reply;
 mod request;
 mod served;
@@ -13,10 +11,10 @@ mod serving;
 mod session;
 mod span;
 mod step;
+mod steps;
 
-pub use fault::{Fault, Place};
 pub use reply::Reply;
-pub use served::{Opening, Replies, ServeError, Served};
+pub use served::{ServeError, Served};
 pub use serving::serve;
-pub use span::{ReadNumbers, Span, SpanOutcome, Spans};
+pub use span::{Span, SpanOutcome};
 pub use step::Step;

@@ -1,6 +1,7 @@
 //! What is answered to a step.
-use crate::{Fault, Spans};
-use vx_base::ByteBuffer;
+use crate::Span;
+use vx_base::{ByteBuffer, Sequence};
+use vx_sched::Fault;
 
 /// The answer to one step of a script.
 #[derive(Drop)]
@@ -18,5 +19,5 @@ pub enum Reply {
     /// No request with this number is live.
     NotLive,
     /// What a drive read.
-    Driven(Spans),
+    Driven(Sequence<Span>),
 }

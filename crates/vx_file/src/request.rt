@@ -1,6 +1,6 @@
 //! The requests of a session.
-use crate::Fault;
 use vx_base::{ByteBuffer, SegmentSpec};
+use vx_sched::Fault;
 
 /// Where a request stands.
 #[derive(Drop)]

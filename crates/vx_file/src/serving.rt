@@ -1,16 +1,18 @@
 //! Serves scripts: opens a file from its tail, and answers one reply a step.
 ghost use Rattle.std.specs.Prelude.{◌≡◌, ◌+◌, ◌≤◌, ◌<◌, ◌^◌, ℕ, List, length, All, Some, true, false, IfOk, IsOk, [], ◌∷◌};
+ghost use Rattle.vx_base.specs.Readers.{SameReader};
 ghost use Rattle.vx_footer.specs.Opening.{EndsWithin, IsTail, vx_grammar};
 ghost use Rattle.vx_file.specs.Serving.{HasCause, FaultRose, StandsStill, Succeeds, repeats};
 ghost use Rattle.vx_file.specs.Tails.{TailCause, TailRose, FooterCause, NoFault};
 
-use crate::answer::answer_all;
-use crate::ask::ask;
+use crate::reading::read_range;
 use crate::session::Session;
-use crate::{Fault, Opening, Place, ServeError, Served, Step};
+use crate::steps::answer_steps;
+use crate::{ServeError, Served, Step};
 use std::alloc::Global;
-use vx_base::{Alignment, ByteBuffer, FaultKind, ReadAtRequest, Reader};
+use vx_base::{Alignment, ByteBuffer, ReadAtRequest, Reader, Sequence};
 use vx_footer::{Footer, OpenError};
+use vx_sched::ask_size;
 
 /// How many bytes the first read asks for, or the whole file where it is shorter.
 const LEAST_READ: u64 = 65535;
@@ -24,19 +26,15 @@ pub(crate) struct Tail {
 
 /// Reads the tail of a file.
 fn read_tail<R: Reader>(alloc: Global, reader: &mut R) -> Result<Tail, ServeError>
-    ensures cause { (file : List ℕ) → R.bytes reader.old ≡ Some file → TailCause file (record { bytes = R.bytes reader.old; log = R.log reader.old; faults = R.faults reader.old; never_fails = R.never_fails reader.old }) (record { bytes = R.bytes reader.new; log = R.log reader.new; faults = R.faults reader.new; never_fails = R.never_fails reader.new }) result }
-    ensures rose { TailRose (record { bytes = R.bytes reader.old; log = R.log reader.old; faults = R.faults reader.old; never_fails = R.never_fails reader.old }) (record { bytes = R.bytes reader.new; log = R.log reader.new; faults = R.faults reader.new; never_fails = R.never_fails reader.new }) result }
-    ensures steady { (file : List ℕ) → R.never_fails reader.old ≡ true → R.bytes reader.old ≡ Some file → R.faults reader.new ≡ R.faults reader.old }
+    ensures cause { (file : List ℕ) → (R.state reader.old).bytes ≡ Some file → TailCause file (R.state reader.old) (R.state reader.new) result }
+    ensures rose { TailRose (R.state reader.old) (R.state reader.new) result }
+    ensures steady { (file : List ℕ) → (R.state reader.old).never_fails ≡ true → (R.state reader.old).bytes ≡ Some file → (R.state reader.new).faults ≡ (R.state reader.old).faults }
     ensures bound { IfOk result (λ t. t.start + length t.bytes.bytes < 2 ^ 64) }
-    ensures never_falls { R.faults reader.old ≤ R.faults reader.new }
-    ensures same_bytes { R.bytes reader.new ≡ R.bytes reader.old }
-    ensures same_soundness { R.never_fails reader.new ≡ R.never_fails reader.old }
+    ensures same { SameReader (R.state reader.old) (R.state reader.new) }
 {
-    let Ok(size) = reader.size() else {
-        return Err(ServeError::Fault(Fault {
-            kind: FaultKind::ReadFault,
-            place: Place::Size,
-        }));
+    let size = match ask_size(reader) {
+        Ok(size) => size,
+        Err(fault) => return Err(ServeError::Fault(fault)),
     };
     let start = size.saturating_sub(LEAST_READ);
     let range = ReadAtRequest {
@@ -44,7 +42,7 @@ fn read_tail<R: Reader>(alloc: Global, reader: &mut R) -> Result<Tail, ServeErro
         length: (size - start) as usize,
         alignment: Alignment::none(),
     };
-    match ask(alloc, reader, range)? {
+    match read_range(alloc, reader, range)? {
         Ok(bytes) => Ok(Tail { start, bytes }),
         Err(fault) => Err(ServeError::Fault(fault)),
     }
@@ -74,21 +72,20 @@ pub fn serve<R: Reader>(
     requires { repeats [] script.now ≡ false }
     // Each answer has its cause, where the reader tells its bytes: the replies fit the script, a refused
     // file is outside the grammar, and the reader was asked exactly for the ranges that are named.
-    ensures cause { (file : List ℕ) → R.bytes reader.old ≡ Some file → HasCause file script.now (record { bytes = R.bytes reader.old; log = R.log reader.old; faults = R.faults reader.old; never_fails = R.never_fails reader.old }) (record { bytes = R.bytes reader.new; log = R.log reader.new; faults = R.faults reader.new; never_fails = R.never_fails reader.new }) result }
-    ensures fault { FaultRose (record { bytes = R.bytes reader.old; log = R.log reader.old; faults = R.faults reader.old; never_fails = R.never_fails reader.old }) (record { bytes = R.bytes reader.new; log = R.log reader.new; faults = R.faults reader.new; never_fails = R.never_fails reader.new }) result }
+    ensures cause { (file : List ℕ) → (R.state reader.old).bytes ≡ Some file → HasCause file script.now (R.state reader.old) (R.state reader.new) result }
+    ensures fault { FaultRose (R.state reader.old) (R.state reader.new) result }
     // A file of the grammar is served where the reader's count stands still.
-    ensures served { (file : List ℕ) → R.bytes reader.old ≡ Some file → IsOk (vx_grammar file) → StandsStill (record { bytes = R.bytes reader.old; log = R.log reader.old; faults = R.faults reader.old; never_fails = R.never_fails reader.old }) (record { bytes = R.bytes reader.new; log = R.log reader.new; faults = R.faults reader.new; never_fails = R.never_fails reader.new }) → Succeeds result }
+    ensures served { (file : List ℕ) → (R.state reader.old).bytes ≡ Some file → IsOk (vx_grammar file) → StandsStill (R.state reader.old) (R.state reader.new) → Succeeds result }
     // The count of a reader that never fails stands still.
-    ensures steady { (file : List ℕ) → R.never_fails reader.old ≡ true → R.bytes reader.old ≡ Some file → R.faults reader.new ≡ R.faults reader.old }
-    ensures never_falls { R.faults reader.old ≤ R.faults reader.new }
-    ensures same_bytes { R.bytes reader.new ≡ R.bytes reader.old }
-    ensures same_soundness { R.never_fails reader.new ≡ R.never_fails reader.old }
+    ensures steady { (file : List ℕ) → (R.state reader.old).never_fails ≡ true → (R.state reader.old).bytes ≡ Some file → (R.state reader.new).faults ≡ (R.state reader.old).faults }
+    ensures same { SameReader (R.state reader.old) (R.state reader.new) }
 {
     let tail = read_tail(alloc, reader)?;
     let footer = read_footer(alloc, &tail)?;
-    let opening = Opening::one(alloc, tail.start, tail.bytes.len() as u64)?;
+    let mut opening = Sequence::new(alloc);
+    opening.push((tail.start, tail.bytes.len() as u64))?;
     let mut session = Session::new(alloc, tail.start, tail.bytes);
-    let replies = answer_all(
+    let replies = answer_steps(
         alloc,
         reader,
         &mut session,

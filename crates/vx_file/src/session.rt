@@ -7,11 +7,12 @@ ghost use Rattle.vx_file.specs.Kept.{cut as cut_of, first_state as first_state_o
 
 use crate::queue::Queue;
 use crate::request::{Request, RequestState};
-use crate::{Fault, Reply};
+use crate::Reply;
 use std::alloc::{AllocError, Global};
 use std::marker::Model;
 use std::mem;
 use vx_base::{ByteBuffer, SegmentSpec};
+use vx_sched::Fault;
 
 fn is_waiting(request: &Request) -> bool
     ensures { result ≡ is_waiting_state request.now.state }

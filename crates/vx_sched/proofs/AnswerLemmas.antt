@@ -13,46 +13,8 @@ use Rattle.vx_base.specs.declared.answer.RangeAnswer.{RangeAnswer}
 use Rattle.vx_base.specs.declared.fault.Failed.{Failed}
 use Rattle.vx_sched.specs.Outcomes.{outcome_of, outcome_of_result, outcomes_of, mark_of_outcome, log_of, IsOutcomeOf, AreOutcomesOf, HasBytesOf, HaveBytesOf}
 
--- the list without the first that passes is the list with the first place removed
-pub without_first-at : {X : Type 0} (p : X → Bool) (xs : List X) → without_first p xs ≡ take (position_or_len p xs) xs ++ drop (suc (position_or_len p xs)) xs
-without_first-at p [] = refl
-without_first-at p (x ∷ xs) = at (p x) (position_or_len p xs) (without_first-at p xs)
-  where
-    at : (b : Bool) (n : ℕ) → without_first p xs ≡ take n xs ++ drop (suc n) xs → cond b xs (x ∷ without_first p xs) ≡ take (cond (not b) (1 + n) 0) (x ∷ xs) ++ drop (suc (cond (not b) (1 + n) 0)) (x ∷ xs)
-    at true n h = refl
-    at false n h = rw one-add (ap (λ ys. x ∷ ys) h)
-
--- where the first that passes has a place, it is this
-pub place-is : {X : Type 0} (p : X → Bool) (xs : List X) (i : ℕ) → position p xs ≡ Some i → (position_or_len p xs ≡ i) × (i < length xs)
-place-is p xs i h = grind (arith, nat_tests)
-
--- where the first that passes has a place, it stands there
-pub place-found : {X : Type 0} (p : X → Bool) (xs : List X) (i : ℕ) (x : X) → position p xs ≡ Some i → x ≡ slice_index_or xs i x → Some x ≡ find p xs
-place-found p xs i x h e =
-    let k = place-is p xs i h in
-    let g = slice_get_read xs (length xs) i x refl k.1 e in
-    sym (find_at p xs ∙ ap (slice_get xs) k.0 ∙ g)
-
-pub place-left : {X : Type 0} (p : X → Bool) (xs : List X) (i : ℕ) → position p xs ≡ Some i → remove xs i ≡ without_first p xs
-place-left p xs i h =
-    let k = place-is p xs i h in
-    sym (without_first-at p xs ∙ ap (λ n. take n xs ++ drop (suc n) xs) k.0)
-
--- where none passes there is no place
-pub no_place-is : {X : Type 0} (p : X → Bool) (xs : List X) → position p xs ≡ None → length xs ≤ position_or_len p xs
-no_place-is p xs h = grind (arith, nat_tests)
-
-pub no_place-found : {X : Type 0} (p : X → Bool) (xs : List X) → position p xs ≡ None → None ≡ find p xs
-no_place-found p xs h = sym (find_at p xs ∙ slice_get_past xs (position_or_len p xs) (no_place-is p xs h))
-
-pub no_place-left : {X : Type 0} (p : X → Bool) (xs : List X) → position p xs ≡ None → xs ≡ without_first p xs
-no_place-left p xs h =
-    let k = no_place-is p xs h in
-    let f = without_first-at p xs in
-    grind (arith, common_steps)
-
 -- the mark of an outcome is that of its answer
-mark-outcome : (r : ReadAtRequest) (o : Option RangeAnswer) → mark_of_outcome (outcome_of r o) ≡ mark_of_answer r.length o
+mark-outcome : (r : ReadAtRequest) (o : Option (RangeAnswer Buffer)) → mark_of_outcome (outcome_of r o) ≡ mark_of_answer r.length o
 mark-outcome r None = refl
 mark-outcome r (Some a) = at a.result
   where
@@ -65,7 +27,7 @@ mark-outcome r (Some a) = at a.result
     at (Err _) = refl
 
 -- the log of outcomes is that of their answers
-pub log_of-outcomes : (asked : List ReadAtRequest) (answers : List RangeAnswer) → log_of asked (outcomes_of asked answers) ≡ logged asked answers
+pub log_of-outcomes : (asked : List ReadAtRequest) (answers : List (RangeAnswer Buffer)) → log_of asked (outcomes_of asked answers) ≡ logged asked answers
 log_of-outcomes [] answers = refl
 log_of-outcomes (r ∷ rest) answers =
     let mark = mark-outcome r (answer_to r answers) in
@@ -73,7 +35,7 @@ log_of-outcomes (r ∷ rest) answers =
     cc (mark, others)
 
 -- an outcome is that of its range
-outcome-is : (r : ReadAtRequest) (o : Option RangeAnswer) → IsOutcomeOf r (outcome_of r o)
+outcome-is : (r : ReadAtRequest) (o : Option (RangeAnswer Buffer)) → IsOutcomeOf r (outcome_of r o)
 outcome-is r None = refl
 outcome-is r (Some a) = at a.result
   where
@@ -85,12 +47,12 @@ outcome-is r (Some a) = at a.result
     at (Ok buffer) = size (length buffer.bytes == r.length) buffer refl
     at (Err _) = refl
 
-pub outcomes-are : (asked : List ReadAtRequest) (answers : List RangeAnswer) → AreOutcomesOf asked (outcomes_of asked answers)
+pub outcomes-are : (asked : List ReadAtRequest) (answers : List (RangeAnswer Buffer)) → AreOutcomesOf asked (outcomes_of asked answers)
 outcomes-are [] answers = tt
 outcomes-are (r ∷ rest) answers = (outcome-is r (answer_to r answers), outcomes-are rest (without_answer r answers))
 
 -- the bytes of an answer that names a range are those of the range
-outcome-bytes : (b : List ℕ) (r : ReadAtRequest) (a : RangeAnswer) → names r a ≡ true → IsTrueTo b a → HasBytesOf b r (outcome_of r (Some a))
+outcome-bytes : (b : List ℕ) (r : ReadAtRequest) (a : RangeAnswer Buffer) → names r a ≡ true → IsTrueTo b a → HasBytesOf b r (outcome_of r (Some a))
 outcome-bytes b r a n t = at a.result refl
   where
     size : (w : Bool) (buffer : Buffer) → (length buffer.bytes == r.length) ≡ w → a.result ≡ Ok buffer → HasBytesOf b r (outcome_of_result r (Ok buffer))
@@ -107,7 +69,7 @@ outcome-bytes b r a n t = at a.result refl
     at (Err _) h = tt
 
 -- the first answer that names a range, among answers that are true
-found-bytes : (b : List ℕ) (r : ReadAtRequest) (answers : List RangeAnswer) → AllByRecursion (IsTrueTo b) answers → HasBytesOf b r (outcome_of r (answer_to r answers))
+found-bytes : (b : List ℕ) (r : ReadAtRequest) (answers : List (RangeAnswer Buffer)) → AllByRecursion (IsTrueTo b) answers → HasBytesOf b r (outcome_of r (answer_to r answers))
 found-bytes b r [] t = tt
 found-bytes b r (a ∷ rest) t = at (names r a) refl (found-bytes b r rest t.1)
   where
@@ -116,7 +78,7 @@ found-bytes b r (a ∷ rest) t = at (names r a) refl (found-bytes b r rest t.1)
     at false e h = h
 
 -- the answers that are left are true
-left-true : (b : List ℕ) (r : ReadAtRequest) (answers : List RangeAnswer) → AllByRecursion (IsTrueTo b) answers → AllByRecursion (IsTrueTo b) (without_answer r answers)
+left-true : (b : List ℕ) (r : ReadAtRequest) (answers : List (RangeAnswer Buffer)) → AllByRecursion (IsTrueTo b) answers → AllByRecursion (IsTrueTo b) (without_answer r answers)
 left-true b r [] t = tt
 left-true b r (a ∷ rest) t = at (names r a) (left-true b r rest t.1)
   where
@@ -124,6 +86,6 @@ left-true b r (a ∷ rest) t = at (names r a) (left-true b r rest t.1)
     at true h = t.1
     at false h = (t.0, h)
 
-pub outcomes-bytes : (b : List ℕ) (asked : List ReadAtRequest) (answers : List RangeAnswer) → AllByRecursion (IsTrueTo b) answers → HaveBytesOf b asked (outcomes_of asked answers)
+pub outcomes-bytes : (b : List ℕ) (asked : List ReadAtRequest) (answers : List (RangeAnswer Buffer)) → AllByRecursion (IsTrueTo b) answers → HaveBytesOf b asked (outcomes_of asked answers)
 outcomes-bytes b [] answers t = tt
 outcomes-bytes b (r ∷ rest) answers t = (found-bytes b r answers t, outcomes-bytes b rest (without_answer r answers) (left-true b r answers t))

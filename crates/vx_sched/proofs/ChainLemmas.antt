@@ -123,9 +123,10 @@ apart-from s n (span ∷ rest) h m w =
 pub turn-apart : (s : Scheduler) (spans : List Span) → IsSound s → MergesInTurn s spans → AreApart spans
 turn-apart s [] h m = tt
 turn-apart s (span ∷ rest) h m =
-    let sound = sound-taken s span h m.0 in
-    (apart-from (taken s span) (first_number span.reads) rest sound m.1 (listed-gone s span (first_number span.reads) h (first-listed span.reads (merges-some s span m.0))),
-    turn-apart (taken s span) rest sound m.1)
+    let sound = sound-taken s span h m.0 in (
+      apart-from (taken s span) (first_number span.reads) rest sound m.1 (listed-gone s span (first_number span.reads) h (first-listed span.reads (merges-some s span m.0))),
+      turn-apart (taken s span) rest sound m.1,
+    )
 
 -- a span stays in flight where another is resolved
 pub flies-still : (s : Scheduler) (span other : Span) → IsSound s → IsInFlight s span → IsInFlight s other → (first_number span.reads == first_number other.reads) ≡ false → IsInFlight (resolved s span) other

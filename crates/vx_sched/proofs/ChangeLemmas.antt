@@ -49,11 +49,11 @@ same-head x y a b false e ra rb h = absurd (clash (cases_lt x.request.id y.reque
         let apart : (y.request.id == x.request.id) ≡ false = grind (arith, nat_tests) in
         let past : x.request.id < y.request.id + 1 = omega arith in
         none-some x (sym (rise-none (y.request.id + 1) b x.request.id rb past) ∙ sym (ap (λ t. cond t (Some y) (read_at b x.request.id)) apart)
-            ∙ sym (h x.request.id) ∙ ap (λ t. cond t (Some x) (read_at a x.request.id)) (selfish x.request.id))
+        ∙ sym (h x.request.id) ∙ ap (λ t. cond t (Some x) (read_at a x.request.id)) (selfish x.request.id))
     clash (inr l) =
         let past : y.request.id < x.request.id + 1 = omega arith in
         none-some y (sym (rise-none (x.request.id + 1) a y.request.id ra past) ∙ sym (ap (λ t. cond t (Some x) (read_at a y.request.id)) e)
-            ∙ h y.request.id ∙ ap (λ t. cond t (Some y) (read_at b y.request.id)) (selfish y.request.id))
+        ∙ h y.request.id ∙ ap (λ t. cond t (Some y) (read_at b y.request.id)) (selfish y.request.id))
 
 -- reads are told by their look-ups
 pub same-reads : (m n : ℕ) (a b : Reads) → Rise m a → Rise n b → ((q : ℕ) → read_at a q ≡ read_at b q) → a ≡ b

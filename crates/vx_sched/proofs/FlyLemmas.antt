@@ -130,8 +130,8 @@ module _ (es : Entries) (rs : List ReadRequest) (k : Stands es) (k' : Stands (al
   group-now : group f es' ≡ rs
   group-now = group-is f es' rs k'.sorted k'.keyed order
       (with-listed (waiting_in es) (λ q. flight f (entry_at es' q)) rs rs
-          (λ q r l h. ap (flight f) (now-at q ∙ ap (λ b. cond b (change_entry (Take f (length rs)) (entry_at es q)) (entry_at es q)) l) ∙ taken-flight (entry_at es q) r h)
-          (λ q l. l) waits)
+      (λ q r l h. ap (flight f) (now-at q ∙ ap (λ b. cond b (change_entry (Take f (length rs)) (entry_at es q)) (entry_at es q)) l) ∙ taken-flight (entry_at es q) r h)
+      (λ q l. l) waits)
       (λ q h. at q (is_listed rs q) refl h)
     where
       at : (q : ℕ) (b : Bool) → is_listed rs q ≡ b → is_some (flight f (entry_at es' q)) ≡ true → is_listed rs q ≡ true
@@ -486,13 +486,14 @@ flies-leads es rs k g some order h =
     let here = first-flies (first_number rs) (length rs) es rs some refl h in
     let those = all-those (first_number rs) (length rs) es rs h in
     let fits = among (λ q. flight (first_number rs) (entry_at es q)) rs (group (first_number rs) es) order (group-order (first_number rs) es k.sorted k.keyed) those (group-those (first_number rs) es k.sorted k.keyed)
-        (λ q l. group-listed (first_number rs) es q k.sorted k.keyed ∙ listed-some (λ p. flight (first_number rs) (entry_at es p)) rs q those l) in
+    (λ q l. group-listed (first_number rs) es q k.sorted k.keyed ∙ listed-some (λ p. flight (first_number rs) (entry_at es p)) rs q those l) in
     group-leads es (first_number rs) k here.0 ∙ sym (fits.1 (sym (g.sizes (first_number rs) (first_number rs) (length rs) here.1)))
 
 pub leads-flies : (es : Entries) (rs : List ReadRequest) → Stands es → AreGrouped es → 1 ≤ length rs → leads_at (seen es) (first_number rs) ≡ rs
     → (is_in_order rs ≡ true) × (list_all (λ r. flies_so (first_number rs) (length rs) r (entry_at es r.id)) rs ≡ true)
 leads-flies es rs k g some h =
-    let parts = leads-group es (first_number rs) rs k some h in
-    (subst (λ (z : List ReadRequest). is_in_order z ≡ true) parts.0 (group-order (first_number rs) es k.sorted k.keyed),
-    those-all (first_number rs) (length rs) es rs (λ q m s. ap length (sym parts.0) ∙ g.sizes q (first_number rs) m s)
-        (subst (λ (z : List ReadRequest). AreThose (λ q. flight (first_number rs) (entry_at es q)) z) parts.0 (group-those (first_number rs) es k.sorted k.keyed)))
+    let parts = leads-group es (first_number rs) rs k some h in (
+      subst (λ (z : List ReadRequest). is_in_order z ≡ true) parts.0 (group-order (first_number rs) es k.sorted k.keyed),
+      those-all (first_number rs) (length rs) es rs (λ q m s. ap length (sym parts.0) ∙ g.sizes q (first_number rs) m s)
+          (subst (λ (z : List ReadRequest). AreThose (λ q. flight (first_number rs) (entry_at es q)) z) parts.0 (group-those (first_number rs) es k.sorted k.keyed)),
+    )

@@ -125,9 +125,10 @@ pub keyed-all : (es : Entries) → IsStrictlySortedBy nat_cmp (keys_of es) → (
 keyed-all [] s h = tt
 keyed-all (e ∷ rest) s h =
     let self : is_at (nat_cmp e.0) e.0 ≡ true = grind (arith, nat_tests) in
-    let head = sorted_head nat_cmp e.0 (keys_of rest) s in
-    (h e.0 e.1 (ap (λ b. cond b (Some e.1) (entry_at rest e.0)) self),
-    keyed-all rest (sorted_tail nat_cmp e.0 (keys_of rest) s) (λ q x k. h q x (entry-skip e rest q x head k)))
+    let head = sorted_head nat_cmp e.0 (keys_of rest) s in (
+      h e.0 e.1 (ap (λ b. cond b (Some e.1) (entry_at rest e.0)) self),
+      keyed-all rest (sorted_tail nat_cmp e.0 (keys_of rest) s) (λ q x k. h q x (entry-skip e rest q x head k)),
+    )
 
 -- a look-up behind the first entry
 behind : (e : ℕ × Read) (rest : Entries) (q : ℕ) → (e.0 == q) ≡ false → entry_at (e ∷ rest) q ≡ entry_at rest q

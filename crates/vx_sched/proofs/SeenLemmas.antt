@@ -390,9 +390,10 @@ found-more e rest (d ∷ some) h a = (entry-skip e rest d.0 d.1 h a.0, found-mor
 all-found : (es : Entries) → IsStrictlySortedBy nat_cmp (keys_of es) → AllByRecursion (λ (d : ℕ × Read). entry_at es d.0 ≡ Some d.1) es
 all-found [] s = tt
 all-found (e ∷ rest) s =
-    let self : is_at (nat_cmp e.0) e.0 ≡ true = grind (arith, nat_tests) in
-    (ap (λ b. cond b (Some e.1) (entry_at rest e.0)) self,
-    found-more e rest rest (sorted_head nat_cmp e.0 (keys_of rest) s) (all-found rest (sorted_tail nat_cmp e.0 (keys_of rest) s)))
+    let self : is_at (nat_cmp e.0) e.0 ≡ true = grind (arith, nat_tests) in (
+      ap (λ b. cond b (Some e.1) (entry_at rest e.0)) self,
+      found-more e rest rest (sorted_head nat_cmp e.0 (keys_of rest) s) (all-found rest (sorted_tail nat_cmp e.0 (keys_of rest) s)),
+    )
 
 -- an entry that leads has a group
 lead-first : (all : Entries) (d : ℕ × Read) → Stands all → entry_at all d.0 ≡ Some d.1 → flies_under d.1.request.id d.1.stage ≡ true → has_first (group d.1.request.id all) ≡ true

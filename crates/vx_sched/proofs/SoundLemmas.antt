@@ -50,8 +50,8 @@ sound-requested s r h l =
     let above : (q : ℕ) → r.id ≤ q → read_at s.reads q ≡ None = λ q b. h.ordered.below q (omega arith) in
     sound-of (requested s r) (added-kept s.reads (kept-of s h) r above)
     (λ q b.
-        let apart : (r.id == q) ≡ false = grind (arith, nat_tests) in
-        added-at s.reads r q (above r.id (omega arith)) ∙ ap (λ t. cond t (Some (register_read r)) (read_at s.reads q)) apart ∙ above q (omega arith))
+    let apart : (r.id == q) ≡ false = grind (arith, nat_tests) in
+    added-at s.reads r q (above r.id (omega arith)) ∙ ap (λ t. cond t (Some (register_read r)) (read_at s.reads q)) apart ∙ above q (omega arith))
 
 pub sound-polled : (s : Scheduler) (id : ℕ) → IsSound s → IsSound (polled s id)
 sound-polled s id h = sound-of (polled s id) (polled-kept s.reads (kept-of s h) id) (λ q b. none-change (λ n. n == id) poll_read s.reads q poll-numbers h.ordered.rise (h.ordered.below q b))

@@ -276,4 +276,3 @@ pub near-none : (reads : Entries) (places : BTreeSet (ℕ × ℕ)) (longest left
 near-none reads places longest left from right first ids t f past id r h l o u =
     let long = waiting-long reads places longest t id r h in
     absurd (omega arith)
-

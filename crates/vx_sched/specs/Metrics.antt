@@ -10,8 +10,8 @@ raised_by count more = min (count + more) last_count
 -- with a span of so many reads
 abbrev pub with_span : ℕ → RequestMetrics → RequestMetrics
 with_span reads m = if nat_lt reads 2
-  then record m { individual_requests = raised_by m.individual_requests 1 }
-  else record m { coalesced_requests = raised_by m.coalesced_requests 1; num_requests_coalesced = raised_by m.num_requests_coalesced reads }
+    then record m { individual_requests = raised_by m.individual_requests 1 }
+    else record m { coalesced_requests = raised_by m.coalesced_requests 1; num_requests_coalesced = raised_by m.num_requests_coalesced reads }
 
 -- with a call for so many ranges
 abbrev pub with_call : ℕ → RequestMetrics → RequestMetrics

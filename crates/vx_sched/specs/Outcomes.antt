@@ -1,7 +1,11 @@
 -- What became of the ranges that a reader was asked.
-use Rattle.std.specs.Prelude.{◌≡◌, ℕ, ◌==◌, List, [], ◌∷◌, length, Option, Some, None, Ok, Err, Result, if◌then◌else◌}
+use Rattle.std.specs.Prelude.{◌≡◌, ℕ, ◌++◌, ◌==◌, true, List, [], ◌∷◌, length, All, Option, Some, None, IsSome, Ok, Err, Result, IsOk, IfOk, IfErr, OnErr, Vec, if◌then◌else◌}
+use Rattle.std.specs.Global.{Global}
+use Rattle.std.specs.Option.{option_map}
 use Rattle.vx_base.specs.Buffer.{Buffer, bytes_at}
-use Rattle.vx_base.specs.Asking.{Log, answer_to, without_answer}
+use Rattle.vx_base.specs.Asking.{Log, faulted, answer_to, without_answer, GrewOrStayed, IsInside}
+use Rattle.vx_base.specs.Counts.{Rises}
+use Rattle.vx_base.specs.Readers.{ReaderState}
 use Rattle.vx_base.specs.declared.answer.ReadAtRequest.{ReadAtRequest}
 use Rattle.vx_base.specs.declared.answer.RangeAnswer.{RangeAnswer}
 use Rattle.vx_base.specs.declared.fault.Failed.{Failed}
@@ -23,12 +27,12 @@ outcome_of_result range (Ok buffer) =
 outcome_of_result range (Err _) = out.Fault (range_fault ReadFault range)
 
 -- what the answer to a range makes of it
-abbrev pub outcome_of : ReadAtRequest → Option RangeAnswer → Outcome
+abbrev pub outcome_of : ReadAtRequest → Option (RangeAnswer Buffer) → Outcome
 outcome_of range None = out.Fault (range_fault MissingRange range)
 outcome_of range (Some a) = outcome_of_result range a.result
 
 -- what the answers make of ranges, each by the first answer left that names it
-abbrev pub outcomes_of : List ReadAtRequest → List RangeAnswer → List Outcome
+abbrev pub outcomes_of : List ReadAtRequest → List (RangeAnswer Buffer) → List Outcome
 outcomes_of [] answers = []
 outcomes_of (r ∷ rest) answers = outcome_of r (answer_to r answers) ∷ outcomes_of rest (without_answer r answers)
 
@@ -68,3 +72,27 @@ abbrev pub HaveBytesOf : List ℕ → List ReadAtRequest → List Outcome → Ty
 HaveBytesOf bytes [] outcomes = Unit {0}
 HaveBytesOf bytes (r ∷ rest) [] = Unit {0}
 HaveBytesOf bytes (r ∷ rest) (o ∷ more) = HasBytesOf bytes r o × HaveBytesOf bytes rest more
+
+-- What asking a reader for ranges answers: one outcome a range, in order, and its bytes are those of the
+-- range. The log gained the ranges, with these outcomes as marks; without memory it gained them with any
+-- marks, or nothing. Each fault counts.
+pub record AskCause {E : Type 0} (ranges : List ReadAtRequest) (before now : ReaderState) (outcomes : Result (Vec Outcome Global) E) : Type 0 where
+  pub places : IfOk outcomes (λ all. AreOutcomesOf ranges all.items)
+  pub bytes : IfOk outcomes (λ all. (b : List ℕ) → before.bytes ≡ Some b → HaveBytesOf b ranges all.items)
+  pub log : IfOk outcomes (λ all. now.log ≡ option_map (λ l. l ++ log_of ranges all.items) before.log)
+  pub memory : OnErr outcomes (GrewOrStayed ranges before.log now.log)
+  pub rises : IfOk outcomes (λ all. Rises (faulted (log_of ranges all.items)) before.faults now.faults)
+  pub sound : (b : List ℕ) → before.never_fails ≡ true → before.bytes ≡ Some b → All (IsInside b) ranges → now.faults ≡ before.faults
+  pub complete : IfOk outcomes (λ all. (b : List ℕ) → before.never_fails ≡ true → before.bytes ≡ Some b → All (IsInside b) ranges → faulted (log_of ranges all.items) ≡ 0)
+
+-- the fault of the call for the size
+abbrev pub size_fault : Fault
+size_fault = record { kind = ReadFault; place = place.Size }
+
+-- what asking a reader for its size answers: the number of bytes, or the fault of that call
+pub record AskSizeCause (before now : ReaderState) (size : Result ℕ Fault) : Type 0 where
+  pub told : IfOk size (λ n. (b : List ℕ) → before.bytes ≡ Some b → n ≡ length b)
+  pub fault : IfErr size (λ f. f ≡ size_fault)
+  pub failed : OnErr size (Rises 1 before.faults now.faults)
+  pub sound : before.never_fails ≡ true → IsOk size × (now.faults ≡ before.faults) × IsSome before.bytes
+  pub log : now.log ≡ before.log

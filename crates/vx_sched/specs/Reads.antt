@@ -132,11 +132,11 @@ drop_read x = if is_flying x.state then Some (record x { dropped = true }) else 
 -- a waiting read of a span is in flight; the first one leads the span
 abbrev pub take_read : List ReadRequest → Known → Option Known
 take_read reads x = if is_waiting x.state
-  then Some (record x { state = InFlight; leads = if x.request.id == first_number reads then reads else [] })
-  else Some x
+    then Some (record x { state = InFlight; leads = if x.request.id == first_number reads then reads else [] })
+    else Some x
 
 -- a read in flight is resolved, or gone where it was marked
 abbrev pub resolve_read : Known → Option Known
 resolve_read x = if is_flying x.state
-  then (if x.dropped then None else Some (record x { state = Resolved; leads = [] }))
-  else Some x
+    then (if x.dropped then None else Some (record x { state = Resolved; leads = [] }))
+    else Some x

@@ -168,7 +168,13 @@ fn if_waits(found: Option<Read>) -> Option<ReadRequest>
     ensures { result ≡ if_waits found }
 {
     match found {
-        Some(read) => { if read.stage.is_waiting() { Some(read.request) } else { None } }
+        Some(read) => {
+            if read.stage.is_waiting() {
+                Some(read.request)
+            } else {
+                None
+            }
+        }
         None => None,
     }
 }

@@ -7,10 +7,7 @@ use crate::{
 use std::alloc::Global;
 use std::process::Abort;
 use std::test::Fail;
-use vx_base::{
-    Alignment, ByteBuffer, FaultKind, MemReader, Mischief, MischiefKind,
-    ReadAtRequest,
-};
+use vx_base::{Alignment, ByteBuffer, FaultKind, MemReader, Mischief, MischiefKind, ReadAtRequest};
 
 // The alignment of an exponent.
 pub fn aligned(exponent: u8) -> Alignment {
@@ -88,7 +85,13 @@ fn at_distance(
 // Whether the first span of a row has its range.
 fn holds(rt: &impl Abort, alloc: Global, row: &Row) -> Result<bool, Fail> {
     let (first, second) = (row.polled, row.registered);
-    let mut state = State::new(alloc, row.distance, row.max_read_size, aligned(row.exponent), 4);
+    let mut state = State::new(
+        alloc,
+        row.distance,
+        row.max_read_size,
+        aligned(row.exponent),
+        4,
+    );
     assert!(rt; first.0 < 2000000 && first.1 < 2000000);
     assert!(rt; second.0 < 2000000 && second.1 < 2000000);
     state.on_event(ReadEvent::Request(read(0, first.0, first.1)))?;
@@ -260,7 +263,7 @@ fn answers_are_matched_by_range(rt: HostRuntime) -> Result<(), Fail> {
     ]?;
     let bytes = Vec::from_slice(rt.alloc(), b"0123456789abcdef")?;
     let held = ByteBuffer::from_vec(rt.alloc(), bytes, Alignment::none())?;
-    let mut reader = MemReader::new(rt.alloc(), held, None, 2, wrongs)?;
+    let mut reader = MemReader::new(rt.alloc(), held, None, None, 2, wrongs)?;
     assert!(rt; ask_size(&mut reader).is_ok());
     let asked = [
         ReadAtRequest {

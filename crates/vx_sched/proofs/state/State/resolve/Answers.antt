@@ -13,8 +13,7 @@ pub invariant_of-self : goal.invariant_of-self
 invariant_of-self c =
     let same : c.resolve.new.self ≡ (resolved (the_view c.self.inside) c.args.range.now).reads =
     c.resolve.ensures ∙ ap (λ (rs : List ReadRequest). change (is_listed rs) resolve_read c.self.inside.table) c.requests.ensures.value in
-    let flight = subst (λ (s : Scheduler). IsInFlight s c.args.range.now) (sym c.self.view_is) c.requires in
-    (
+    let flight = subst (λ (s : Scheduler). IsInFlight s c.args.range.now) (sym c.self.view_is) c.requires in (
       c.self.invariant.0,
       rw same (below-resolved (the_view c.self.inside) c.args.range.now c.self.inside.from c.self.invariant.2 c.self.invariant.1),
       rw same (sound-resolved (the_view c.self.inside) c.args.range.now c.self.invariant.2 flight),

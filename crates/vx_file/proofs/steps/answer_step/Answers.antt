@@ -2,7 +2,7 @@ use Rattle.std.proofs.Common.{◌≡◌, ◌∙◌, ap, refl, length, Some}
 use Rattle.std.proofs.lemmas.Option.{slice_get_read}
 use Rattle.std.specs.Prelude.{slice_get}
 use Rattle.vx_file.proofs.Answering.{if_ok, if_ok_too, register-replied, poll-replied, drive-replied}
-use Rattle.vx_file.proofs.answer.answer.Goals as goal
+use Rattle.vx_file.proofs.steps.answer_step.Goals as goal
 
 pub returns-in-Some-clause-replied : goal.returns-in-Some-clause-replied
 returns-in-Some-clause-replied g c =
