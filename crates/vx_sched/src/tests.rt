@@ -2,7 +2,8 @@
 ghost use Rattle.std.specs.Prelude.{◌≡◌};
 
 use crate::{
-    CoalescedRequest, IoRequest, Outcome, RangeError, ReadEvent, ReadRequest, State, ask, ask_size,
+    CoalescedRequest, IoRequest, Outcome, RangeError, ReadEvent, ReadRequest, ReadState,
+    RequestMetrics, State, ask, ask_size, request_of,
 };
 use std::alloc::Global;
 use std::process::Abort;
@@ -161,11 +162,40 @@ fn a_span_is_taken_resolved_and_gone(rt: HostRuntime) -> Result<(), Fail> {
     assert_eq!(rt; state.counts().ranges, 1);
     assert!(rt; state.next(rt.alloc())?.is_none());
     assert!(rt; state.is_in_flight(&span));
+    let asked = request_of(&span);
+    assert!(rt; asked.offset == 7 && asked.length == 5);
     state.resolve(&span);
+    assert!(rt; state.read_state(3) == Some(ReadState::Resolved));
     assert!(rt; !state.is_in_flight(&span));
     assert_eq!(rt; state.counts().resolved, 1);
     state.on_event(ReadEvent::Dropped(3))?;
     assert_eq!(rt; state.counts().resolved, 0);
+    Ok(())
+}
+
+#[test]
+fn a_batch_is_settled(rt: HostRuntime) -> Result<(), Fail> {
+    let mut state = State::new(rt.alloc(), Some(0), None, aligned(0), 2);
+    assert_eq!(rt; state.concurrency(), 2);
+    state.on_event(ReadEvent::Request(read(0, 0, 4)))?;
+    state.on_event(ReadEvent::Request(read(1, 4, 4)))?;
+    state.on_event(ReadEvent::Request(read(2, 9, 4)))?;
+    state.on_event(ReadEvent::Polled(2))?;
+    state.on_event(ReadEvent::Polled(0))?;
+    let spans = state.batch(rt.alloc(), 2)?;
+    let mut metrics = RequestMetrics::new();
+    metrics.add_call(spans.len());
+    for span in &spans {
+        metrics.add_span(span.requests().len());
+    }
+    assert!(rt; metrics.individual_requests == 1 && metrics.num_requests_coalesced == 2);
+    assert!(rt; metrics.coalesced_requests == 1 && metrics.read_ranges_multi == 1);
+    assert!(rt; metrics.read_ranges_calls == 1 && metrics.read_ranges_num_ranges == 2);
+    if !spans.is_empty() {
+        state.settle(spans.as_slice());
+    }
+    let counts = state.counts();
+    assert!(rt; counts.resolved == 3 && counts.ranges == 0);
     Ok(())
 }
 
