@@ -1,5 +1,5 @@
 -- The spans of a batch.
-use Rattle.std.proofs.Common.{◌≡◌, ℕ, ◌+◌, ◌==◌, min, ◌<◌, ◌≤◌, ◌||◌, max, Bool, true, false, cond, List, [], ◌∷◌, ◌++◌, length, Option, Some, None, refl, ap, sym, ◌∙◌, subst, arith, append_assoc}
+use Rattle.std.proofs.Common.{◌≡◌, ℕ, ◌==◌, min, ◌<◌, ◌≤◌, ◌||◌, max, Bool, true, false, cond, List, [], ◌∷◌, ◌++◌, Option, Some, None, refl, ap, sym, ◌∙◌, subst, arith, append_assoc}
 use Rattle.std.proofs.lemmas.Bool.Decides.{nat_tests}
 use Rattle.std.proofs.lemmas.Bool.{cases_lt}
 use Rattle.std.proofs.lemmas.List.{append-nil}
@@ -19,7 +19,7 @@ use Rattle.vx_sched.specs.declared.read.ReadState.{ReadState}
 use Rattle.vx_sched.specs.declared.read.ReadState.TheVariants.{Registered, Polled, InFlight, Resolved}
 use Rattle.vx_sched.proofs.InsertLemmas.{before-offset, and-true, or-false}
 use Rattle.vx_sched.proofs.PickLemmas.{or-true}
-use Rattle.vx_sched.proofs.SoundLemmas.{sound-taken, read-taken, waiting-taken}
+use Rattle.vx_sched.proofs.SoundLemmas.{sound-taken, read-taken}
 use Rattle.vx_sched.proofs.LawRuns.{listed-gone}
 
 -- reads within a range lie within a greater one

@@ -1,10 +1,10 @@
 -- No polled read has a number below some, after each event.
-use Rattle.std.proofs.Common.{◌≡◌, ℕ, ◌<◌, ◌≤◌, ◌==◌, min, max, Bool, true, false, cond, refl, ap, sym, ◌∙◌, subst, arith}
+use Rattle.std.proofs.Common.{◌≡◌, ℕ, ◌<◌, ◌≤◌, ◌==◌, min, max, Bool, true, false, cond, refl, ap, ◌∙◌, arith}
 use Rattle.std.proofs.lemmas.Bool.Decides.{nat_tests}
 use Rattle.std.specs.Prelude.{is_some}
-use Rattle.vx_sched.specs.Span.{Span, end_of}
-use Rattle.vx_sched.specs.Merging.{is_listed, same_span}
-use Rattle.vx_sched.specs.Reads.{Reads, waiting_at, polled_at}
+use Rattle.vx_sched.specs.Span.{Span}
+use Rattle.vx_sched.specs.Merging.{is_listed}
+use Rattle.vx_sched.specs.Reads.{waiting_at, polled_at}
 use Rattle.vx_sched.specs.Law.{IsSound}
 use Rattle.vx_sched.specs.Scheduling.{Scheduler, NonePolledBelow, MergesNow, requested, polled, dropped, taken, resolved}
 use Rattle.vx_sched.proofs.SoundLemmas.{polled-polled, polled-dropped, polled-requested, polled-taken, polled-resolved}

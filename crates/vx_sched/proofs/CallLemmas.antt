@@ -1,8 +1,7 @@
 -- The law of calls.
-use Rattle.std.proofs.Common.{◌≡◌, ℕ, ◌+◌, ◌<◌, ◌≤◌, List, [], ◌∷◌, ◌++◌, length, map, Option, refl, ap, sym, ◌∙◌, subst, arith}
+use Rattle.std.proofs.Common.{◌≡◌, ℕ, List, [], ◌∷◌, ◌++◌, map, Option, refl, ap, sym, ◌∙◌, subst, arith}
 use Rattle.vx_sched.specs.Span.{Span}
-use Rattle.vx_sched.specs.Reads.{ranges_in_flight}
-use Rattle.vx_sched.specs.Scheduling.{Scheduler, MayHappen, MergesInTurn, IsLegal, IsLegalNow, stepped, after_event, resolved, all_taken, all_resolved, replay}
+use Rattle.vx_sched.specs.Scheduling.{Scheduler, MayHappen, IsLegal, stepped, after_event, resolved, all_taken, all_resolved, replay}
 use Rattle.vx_sched.specs.Law.{IsSound, idle}
 use Rattle.vx_sched.specs.Calls.{Call, told, refused, took, gave, gave_none, resolves, settles, IsCall, AreCalls, IsReplay, event_of, events_of, all_events}
 use Rattle.vx_sched.proofs.LawRuns.{sound-run, idle-sound, keeps}

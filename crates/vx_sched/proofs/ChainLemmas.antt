@@ -1,20 +1,20 @@
 -- How the calls of a scheduler chain.
-use Rattle.std.proofs.Common.{◌≡◌, ℕ, ◌+◌, ◌<◌, ◌≤◌, ◌==◌, Bool, true, false, cond, List, [], ◌∷◌, length, map, Option, Some, None, refl, ap, sym, ◌∙◌, subst, arith}
+use Rattle.std.proofs.Common.{◌≡◌, ℕ, ◌+◌, ◌<◌, ◌≤◌, ◌==◌, Bool, true, false, List, [], ◌∷◌, length, map, None, refl, ap, sym, ◌∙◌, subst, arith}
 use Rattle.std.specs.Prelude.{is_some}
 use Rattle.std.proofs.lemmas.Bool.Decides.{nat_tests}
 use Rattle.std.specs.List.{AllByRecursion}
 use Rattle.vx_sched.specs.Span.{Span}
 use Rattle.vx_sched.specs.Merging.{is_listed, first_number}
-use Rattle.vx_sched.specs.Reads.{Reads, waiting_at, polled_at, leads_at, flying_at, has_first, flights, ranges_in_flight}
+use Rattle.vx_sched.specs.Reads.{waiting_at, leads_at, flying_at, has_first, ranges_in_flight}
 use Rattle.vx_sched.specs.Counting.{count_in}
-use Rattle.vx_sched.specs.Scheduling.{Scheduler, SameSettings, MergesNow, MergesInTurn, MayTake, IsInFlight, AllInFlight, AreApart, IsLegal, taken, all_taken, resolved, all_resolved, span_at}
+use Rattle.vx_sched.specs.Scheduling.{Scheduler, SameSettings, MergesNow, MergesInTurn, MayTake, IsInFlight, AllInFlight, AreApart, IsLegal, taken, all_taken, resolved, all_resolved}
 use Rattle.vx_sched.specs.Law.{IsSound}
 use Rattle.vx_sched.specs.Chain.{IsLeft}
 use Rattle.vx_sched.proofs.FlyLemmas.{first-listed}
 use Rattle.vx_sched.proofs.FlightLemmas.{lone-leads, some-listed, listed-rests, listed-flies, leads-first, leads-other, leads-left}
 use Rattle.vx_sched.proofs.CountLemmas.{ranges-taken, ranges-resolved, polls-less, polls-resolved, polls-fewer}
-use Rattle.vx_sched.proofs.SoundLemmas.{kept-of, merges-some, merges-waits, sound-taken, sound-all_taken, sound-resolved, waiting-resolved, polled-resolved}
-use Rattle.vx_sched.proofs.LawRuns.{listed-gone, stays-gone, taken-concurrency, unlisted}
+use Rattle.vx_sched.proofs.SoundLemmas.{kept-of, merges-some, merges-waits, sound-taken, sound-resolved, waiting-resolved, polled-resolved}
+use Rattle.vx_sched.proofs.LawRuns.{listed-gone, stays-gone}
 use Rattle.vx_sched.specs.declared.request.ReadRequest.{ReadRequest}
 use Rattle.vx_sched.specs.declared.event.Event.TheVariants as event
 use Rattle.vx_sched.specs.declared.read.ReadState.TheVariants as state

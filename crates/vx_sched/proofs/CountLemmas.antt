@@ -1,9 +1,9 @@
 -- How many ranges are in flight, and how many reads are polled, after a change.
-use Rattle.std.proofs.Common.{◌≡◌, ℕ, ◌+◌, ◌<◌, ◌≤◌, ◌==◌, ◌∷◌, ◌++◌, Bool, true, false, cond, List, [], length, Option, Some, None, refl, ap, sym, ◌∙◌, subst, arith}
+use Rattle.std.proofs.Common.{◌≡◌, ℕ, ◌+◌, ◌<◌, ◌≤◌, ◌==◌, ◌∷◌, ◌++◌, Bool, true, false, cond, List, [], length, Option, Some, None, refl, ap, sym, ◌∙◌, arith}
 use Rattle.std.specs.Prelude.{is_some}
 use Rattle.std.proofs.lemmas.Bool.Decides.{nat_tests}
 use Rattle.vx_sched.specs.Merging.{is_listed, first_number}
-use Rattle.vx_sched.specs.Reads.{Known, Reads, read_at, waiting_at, polled_at, leads_at, flying_at, has_first, flights, if_waiting, if_polled, if_flying, if_leads, is_waiting, is_polled, is_flying, Rise, keep, change, register_read, take_read, resolve_read, poll_read, drop_read}
+use Rattle.vx_sched.specs.Reads.{Known, Reads, read_at, waiting_at, polled_at, leads_at, flying_at, has_first, flights, if_waiting, if_polled, if_flying, if_leads, is_polled, is_flying, Rise, keep, change, register_read, take_read, resolve_read, poll_read, drop_read}
 use Rattle.vx_sched.specs.Counting.{count_in, same_state}
 use Rattle.vx_sched.proofs.ChangeLemmas.{rise-none}
 use Rattle.vx_sched.specs.declared.request.ReadRequest.{ReadRequest}

@@ -1,15 +1,11 @@
 -- The spans in flight, after each event.
-use Rattle.std.proofs.Common.{◌≡◌, ℕ, ◌+◌, ◌<◌, ◌≤◌, ◌==◌, ◌∷◌, ◌++◌, ◌||◌, ◌⊎◌, inl, inr, Bool, true, false, cond, List, [], length, Option, Some, None, unwrap_or, refl, ap, sym, ◌∙◌, subst, arith}
+use Rattle.std.proofs.Common.{◌≡◌, ℕ, ◌+◌, ◌<◌, ◌≤◌, ◌==◌, ◌∷◌, ◌++◌, ◌||◌, Bool, true, false, cond, List, [], length, Option, Some, None, unwrap_or, refl, ap, sym, ◌∙◌, subst, arith}
 use Rattle.std.specs.Prelude.{is_some}
-use Rattle.std.proofs.lemmas.Bool.{cases_lt}
 use Rattle.std.proofs.lemmas.Bool.Decides.{nat_tests}
-use Rattle.std.specs.List.{AllByRecursion}
-use Rattle.vx_sched.specs.Span.{Span}
-use Rattle.vx_sched.specs.Merging.{is_in_order, is_listed, first_number}
-use Rattle.vx_sched.specs.Reads.{Known, Reads, read_at, waiting_at, polled_at, leads_at, flying_at, has_first, flights, ranges_in_flight, if_waiting, if_polled, if_flying, if_leads, is_waiting, is_polled, is_flying, after_poll, Rise, keep, change, register_read, poll_read, drop_read, take_read, resolve_read}
-use Rattle.vx_sched.specs.Counting.{count_in, same_state}
+use Rattle.vx_sched.specs.Merging.{is_listed, first_number}
+use Rattle.vx_sched.specs.Reads.{Known, Reads, read_at, waiting_at, leads_at, flying_at, has_first, flights, if_waiting, if_flying, if_leads, is_waiting, is_flying, after_poll, Rise, change, register_read, poll_read, drop_read, take_read, resolve_read}
 use Rattle.vx_sched.specs.Law.{FirstNumbersRise, Holds, AreFlights}
-use Rattle.vx_sched.proofs.ChangeLemmas.{KeepsNumbers, step, rise-less, rise-none, change-at, change-rise, added-at, added-rise}
+use Rattle.vx_sched.proofs.ChangeLemmas.{step, rise-none, change-at, change-rise, added-at, added-rise}
 use Rattle.vx_sched.proofs.SeenLemmas.{poll-numbers, drop-numbers, take-numbers, resolve-numbers}
 use Rattle.vx_sched.proofs.FlyLemmas.{first-listed}
 use Rattle.vx_sched.specs.declared.request.ReadRequest.{ReadRequest}

@@ -1,16 +1,16 @@
 -- Spans that are taken and resolved, over the entries.
-use Rattle.std.proofs.Common.{◌≡◌, ℕ, ◌+◌, ◌<◌, ◌≤◌, ◌==◌, ◌∷◌, ◌&&◌, ◌||◌, Bool, true, false, cond, List, [], length, Option, Some, None, option_map, unwrap_or, refl, ap, sym, ◌∙◌, subst, arith}
+use Rattle.std.proofs.Common.{◌≡◌, ℕ, ◌≤◌, ◌==◌, ◌∷◌, ◌&&◌, ◌||◌, Bool, true, false, cond, List, [], length, Option, Some, None, option_map, unwrap_or, refl, ap, sym, ◌∙◌, subst, arith}
 use Rattle.std.specs.Prelude.{is_some}
 use Rattle.std.proofs.lemmas.Bool.Decides.{nat_tests}
-use Rattle.std.specs.List.{AllByRecursion, list_all}
+use Rattle.std.specs.List.{list_all}
 use Rattle.vx_sched.specs.Merging.{is_in_order, is_listed, first_number}
-use Rattle.vx_sched.specs.Reads.{Known, leads_at, has_first, if_leads, change, take_read, resolve_read}
-use Rattle.vx_sched.specs.Entries.{Entries, entry_at, waiting_in, if_waits, waits_in, flies_under, group, known, seen, all_changed}
-use Rattle.vx_sched.specs.Places.{AreGrouped, size_in, size_of}
-use Rattle.vx_sched.specs.Flying.{flies_so, flies_in, same_read}
+use Rattle.vx_sched.specs.Reads.{leads_at, has_first, if_leads, change, take_read, resolve_read}
+use Rattle.vx_sched.specs.Entries.{Entries, entry_at, waiting_in, if_waits, flies_under, group, known, seen, all_changed}
+use Rattle.vx_sched.specs.Places.{AreGrouped, size_in}
+use Rattle.vx_sched.specs.Flying.{flies_so, same_read}
 use Rattle.vx_sched.proofs.InsertLemmas.{and-true}
 use Rattle.vx_sched.proofs.EntriesLemmas.{all-at, change_entry}
-use Rattle.vx_sched.proofs.GroupLemmas.{AreThose, Fits, flight, among, group-listed, group-order, group-those, group-is, group-same, listed-some}
+use Rattle.vx_sched.proofs.GroupLemmas.{AreThose, flight, among, group-listed, group-order, group-those, group-is, group-same, listed-some}
 use Rattle.vx_sched.proofs.ChangeLemmas.{step}
 use Rattle.vx_sched.proofs.SeenLemmas.{Stands, view, known-along, seen-at, take-numbers, resolve-numbers}
 use Rattle.vx_sched.specs.declared.request.ReadRequest.{ReadRequest}

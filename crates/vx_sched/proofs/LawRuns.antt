@@ -1,13 +1,12 @@
 -- The scheduling law, over runs of events.
-use Rattle.std.proofs.Common.{◌≡◌, ℕ, ◌+◌, ◌<◌, ◌≤◌, ◌==◌, ◌||◌, ◌⊎◌, inl, inr, Bool, true, false, cond, not, List, [], ◌∷◌, length, Option, Some, None, IsSome, refl, ap, sym, ◌∙◌, subst, arith}
-use Rattle.std.specs.Prelude.{is_some}
+use Rattle.std.proofs.Common.{◌≡◌, ℕ, ◌+◌, ◌<◌, ◌≤◌, ◌==◌, ◌||◌, ◌⊎◌, inl, inr, Bool, true, false, cond, not, List, [], ◌∷◌, Option, Some, None, IsSome, refl, ap, sym, ◌∙◌, subst, arith}
 use Rattle.std.proofs.lemmas.Bool.Decides.{nat_tests}
 use Rattle.std.proofs.lemmas.Bool.{cases_lt}
 use Rattle.std.proofs.Math.Logic.{⊎_elim}
 use Rattle.std.specs.List.{AllByRecursion, list_any}
 use Rattle.vx_sched.specs.Span.{Span}
-use Rattle.vx_sched.specs.Reads.{Known, Reads, read_at, waiting_at, ranges_in_flight, if_waiting, is_flying, Rise, change, register_read, poll_read, drop_read, take_read, resolve_read}
-use Rattle.vx_sched.specs.Merging.{is_listed, first_number}
+use Rattle.vx_sched.specs.Reads.{Known, Reads, read_at, waiting_at, ranges_in_flight, if_waiting, Rise, change, register_read, poll_read, drop_read, take_read, resolve_read}
+use Rattle.vx_sched.specs.Merging.{is_listed}
 use Rattle.vx_sched.specs.Scheduling.{Scheduler, IsLegal, IsLegalNow, MergesInTurn, replay, after_event, taken, all_taken}
 use Rattle.vx_sched.specs.Law.{IsSound, idle, Keeps, requests, drops, times_in, times_of, times_taken}
 use Rattle.vx_sched.specs.declared.request.ReadRequest.{ReadRequest}
@@ -19,7 +18,7 @@ use Rattle.vx_sched.proofs.InsertLemmas.{or-false}
 use Rattle.vx_sched.proofs.ChangeLemmas.{KeepsNumbers, step, change-at, added-at}
 use Rattle.vx_sched.proofs.SeenLemmas.{poll-numbers, drop-numbers, take-numbers, resolve-numbers}
 use Rattle.vx_sched.proofs.CountLemmas.{ranges-less, ranges-added, poll-leads, drop-leads, resolve-leads}
-use Rattle.vx_sched.proofs.SoundLemmas.{sound-of, sound-event, sound-taken, sound-all_taken, waiting-requested, waiting-polled, waiting-dropped, waiting-taken, waiting-resolved}
+use Rattle.vx_sched.proofs.SoundLemmas.{sound-event, sound-taken, sound-all_taken, waiting-requested, waiting-polled, waiting-dropped, waiting-taken, waiting-resolved}
 
 pub taken-next : (s : Scheduler) (spans : List Span) → (all_taken s spans).next ≡ s.next
 taken-next s [] = refl

@@ -1,28 +1,26 @@
 -- The reads that entries stand for, after a change.
-use Rattle.std.proofs.Common.{◌≡◌, ℕ, ◌+◌, ◌<◌, ◌≤◌, ◌==◌, ◌∷◌, ◌++◌, ◌&&◌, Bool, true, false, cond, List, [], map, length, Option, Some, None, option_map, unwrap_or, refl, ap, sym, ◌∙◌, subst, arith}
+use Rattle.std.proofs.Common.{◌≡◌, ℕ, ◌+◌, ◌<◌, ◌≤◌, ◌==◌, ◌∷◌, ◌++◌, Bool, true, false, cond, List, [], map, length, Option, Some, None, option_map, unwrap_or, refl, ap, sym, ◌∙◌, subst, arith}
 use Rattle.std.specs.Prelude.{is_some, IfSome, ◌^◌}
 use Rattle.vx_sched.specs.Span.{end_of}
 use Rattle.std.proofs.lemmas.Bool.Decides.{nat_tests}
 use Rattle.std.proofs.lemmas.Map.Keys.{sorted_head, sorted_tail}
-use Rattle.std.specs.List.{AllByRecursion, list_all}
+use Rattle.std.specs.List.{AllByRecursion}
 use Rattle.std.specs.List.Sorted.{IsStrictlySortedBy}
 use Rattle.std.specs.Map.{keys_of}
 use Rattle.std.specs.BTreeMap.{insert_entry, is_at}
 use Rattle.std.specs.BTreeSet.{BTreeSet}
 use Rattle.std.specs.Ordering.{nat_cmp}
 use Rattle.std.specs.declared.cmp.Ordering.TheVariants.{Less}
-use Rattle.vx_sched.specs.Merging.{is_in_order, is_listed, first_number}
-use Rattle.vx_sched.specs.Reads.{Known, Reads, ranges_in_flight, flights, read_at, waiting_at, polled_at, state_at, leads_at, has_first, if_waiting, if_polled, if_state, if_leads, Rise, change, register_read, poll_read, drop_read, take_read, resolve_read}
-use Rattle.vx_sched.specs.Entries.{Entries, entry_at, state_of, waiting_in, if_waits, polled_entry, if_polls, waits_in, flies_under, group, known, seen, changed, all_changed}
+use Rattle.vx_sched.specs.Merging.{is_listed}
+use Rattle.vx_sched.specs.Reads.{Known, ranges_in_flight, flights, read_at, waiting_at, polled_at, state_at, has_first, if_waiting, if_polled, if_state, Rise, change, register_read, poll_read, drop_read, take_read, resolve_read}
+use Rattle.vx_sched.specs.Entries.{Entries, entry_at, state_of, waiting_in, if_waits, polled_entry, if_polls, waits_in, flies_under, group, known, seen, changed}
 use Rattle.vx_sched.specs.Counting.{same_state, count_in, is_of, count_of}
 use Rattle.vx_sched.specs.declared.counts.Counts.{Counts}
 use Rattle.vx_sched.specs.declared.counts.Kind.{Kind}
 use Rattle.vx_sched.specs.declared.counts.Kind.TheVariants.{IsRegistered, IsPolled, IsFlying, IsResolved, Leads}
-use Rattle.vx_sched.specs.Places.{IsKept, AllFit, AreGrouped, size_in, size_of}
-use Rattle.vx_sched.specs.Flying.{flies_so, flies_in, same_read}
-use Rattle.vx_sched.proofs.InsertLemmas.{and-true}
-use Rattle.vx_sched.proofs.EntriesLemmas.{above-none, lookup-put, sorted-put, sorted-changed, sorted-all, changed-at, all-at, change_entry}
-use Rattle.vx_sched.proofs.GroupLemmas.{AreThose, AreKeyed, keyed-all, entry-skip, Fits, flight, among, group-listed, group-order, group-those, group-is, group-same, listed-some}
+use Rattle.vx_sched.specs.Places.{IsKept, AllFit, AreGrouped, size_in}
+use Rattle.vx_sched.proofs.EntriesLemmas.{lookup-put, changed-at, change_entry}
+use Rattle.vx_sched.proofs.GroupLemmas.{AreThose, AreKeyed, keyed-all, entry-skip, flight, group-listed, group-same}
 use Rattle.vx_sched.proofs.ChangeLemmas.{same-reads, KeepsNumbers, step, change-at, change-rise, added-at, added-rise}
 use Rattle.vx_sched.specs.declared.request.ReadRequest.{ReadRequest}
 use Rattle.vx_sched.specs.declared.read.Read.{Read}
@@ -31,7 +29,7 @@ use Rattle.vx_sched.specs.declared.read.ReadState.TheVariants as state
 use Rattle.vx_sched.specs.declared.read.Stage.{Stage}
 use Rattle.vx_sched.specs.declared.read.Stage.TheVariants.{Registered, Polled, InFlight, Resolved}
 use Rattle.vx_sched.specs.declared.read.Change.{Change}
-use Rattle.vx_sched.specs.declared.read.Change.TheVariants.{Poll, Cancel, Take, Resolve}
+use Rattle.vx_sched.specs.declared.read.Change.TheVariants.{Poll, Cancel}
 
 -- ---- look-ups
 

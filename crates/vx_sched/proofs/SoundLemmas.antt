@@ -1,10 +1,10 @@
 -- What holds of a scheduler after each event, and what waits and is polled then.
-use Rattle.std.proofs.Common.{◌≡◌, ℕ, ◌+◌, ◌<◌, ◌≤◌, ◌==◌, ◌∷◌, ◌++◌, ◌||◌, Bool, true, false, cond, List, [], length, Option, Some, None, refl, ap, sym, ◌∙◌, subst, arith}
+use Rattle.std.proofs.Common.{◌≡◌, ℕ, ◌≤◌, ◌==◌, ◌∷◌, Bool, true, false, cond, List, [], length, Option, Some, None, refl, ap, sym, ◌∙◌, subst, arith}
 use Rattle.std.specs.Prelude.{is_some}
 use Rattle.std.proofs.lemmas.Bool.Decides.{nat_tests}
 use Rattle.vx_sched.specs.Span.{Span}
-use Rattle.vx_sched.specs.Merging.{is_listed, first_number}
-use Rattle.vx_sched.specs.Reads.{Known, Reads, read_at, waiting_at, polled_at, leads_at, flying_at, has_first, ranges_in_flight, if_waiting, if_polled, is_waiting, is_polled, after_poll, Rise, change, register_read, poll_read, drop_read, take_read, resolve_read}
+use Rattle.vx_sched.specs.Merging.{is_listed}
+use Rattle.vx_sched.specs.Reads.{Known, Reads, read_at, waiting_at, polled_at, if_waiting, if_polled, is_waiting, is_polled, after_poll, Rise, change, register_read, poll_read, drop_read, take_read, resolve_read}
 use Rattle.vx_sched.specs.Scheduling.{Scheduler, MergesNow, IsInFlight, IsLegalNow, MergesInTurn, after_event, requested, polled, dropped, taken, all_taken, resolved}
 use Rattle.vx_sched.specs.Law.{IsSound}
 use Rattle.vx_sched.proofs.GroupLemmas.{listed-some}

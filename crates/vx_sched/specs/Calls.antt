@@ -1,5 +1,5 @@
 -- What a caller does with a scheduler, call by call.
-use Rattle.std.specs.Prelude.{◌≡◌, ℕ, ◌<◌, List, [], ◌∷◌, ◌++◌, map}
+use Rattle.std.specs.Prelude.{◌≡◌, ◌<◌, List, [], ◌∷◌, ◌++◌, map}
 use Rattle.vx_sched.specs.Span.{Span}
 use Rattle.vx_sched.specs.Reads.{ranges_in_flight}
 use Rattle.vx_sched.specs.Scheduling.{Scheduler, MayHappen, MayTake, MergesNow, IsInFlight, IsLegal, stepped, taken, all_taken, resolved, settled, replay}

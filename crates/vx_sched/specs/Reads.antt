@@ -1,6 +1,6 @@
 -- The reads that a scheduler keeps, in order of their numbers.
-use Rattle.std.specs.Prelude.{◌≡◌, ℕ, ◌+◌, ◌≤◌, ◌<◌, ◌==◌, Bool, true, false, List, [], ◌∷◌, length, Option, Some, None, if◌then◌else◌}
-use Rattle.vx_sched.specs.Merging.{first_number, is_listed}
+use Rattle.std.specs.Prelude.{ℕ, ◌+◌, ◌≤◌, ◌==◌, Bool, true, false, List, [], ◌∷◌, length, Option, Some, None, if◌then◌else◌}
+use Rattle.vx_sched.specs.Merging.{first_number}
 use Rattle.vx_sched.specs.declared.request.ReadRequest.{ReadRequest}
 use Rattle.vx_sched.specs.declared.read.ReadState.{ReadState}
 use Rattle.vx_sched.specs.declared.read.ReadState.TheVariants.{Registered, Polled, InFlight, Resolved}

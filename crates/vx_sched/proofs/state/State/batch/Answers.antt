@@ -1,10 +1,10 @@
-use Rattle.std.proofs.Common.{◌≡◌, ℕ, ◌<◌, ◌≤◌, ◌||◌, ◌∷◌, [], length, length-append, Some, true, subst, ap, arith}
+use Rattle.std.proofs.Common.{◌≡◌, ℕ, ◌<◌, ◌≤◌, ◌||◌, ◌∷◌, [], length, length-append, true, subst, ap, arith}
 use Rattle.std.specs.BTreeSet.{contains}
 use Rattle.std.specs.Ordering.{nat_cmp}
 use Rattle.vx_sched.specs.Reads.{polled_at}
 use Rattle.vx_sched.specs.Merging.{is_listed}
 use Rattle.vx_sched.specs.Scheduling.{Scheduler}
-use Rattle.vx_sched.proofs.BatchLemmas.{so_far-start, so_far-step, so_far-merge}
+use Rattle.vx_sched.proofs.BatchLemmas.{so_far-step, so_far-merge}
 use Rattle.vx_sched.proofs.ChainLemmas.{ranges-all, may-take, turn-apart}
 use Rattle.vx_sched.proofs.state.State.batch.Goals as goal
 

@@ -1,4 +1,4 @@
-use Rattle.std.proofs.Common.{◌≡◌, ℕ, ◌<◌, List, [], length, subst, sym, ap, false, arith}
+use Rattle.std.proofs.Common.{◌≡◌, ◌<◌, List, [], length, subst, sym, ap, false, arith}
 use Rattle.std.proofs.lemmas.Grind.{common_steps}
 use Rattle.vx_sched.specs.Span.{Span}
 use Rattle.vx_sched.specs.Scheduling.{Scheduler, NonePolled, all_taken}

@@ -1,4 +1,4 @@
-use Rattle.std.proofs.Common.{◌≡◌, ◌==◌, ap, subst, arith}
+use Rattle.std.proofs.Common.{◌==◌, subst, arith}
 use Rattle.vx_sched.specs.Reads.{poll_read, drop_read}
 use Rattle.vx_sched.specs.Scheduling.{MayHappen}
 use Rattle.vx_sched.proofs.SoundLemmas.{waiting-requested, polled-requested, waiting-polled, polled-polled, waiting-dropped, polled-dropped}

@@ -1,4 +1,4 @@
-use Rattle.std.proofs.Common.{◌≡◌, ℕ, ◌+◌, ◌<◌, ◌≤◌, ◌∷◌, [], List, true, ap, sym, subst, ◌∙◌, arith}
+use Rattle.std.proofs.Common.{◌≡◌, ℕ, ◌+◌, ◌≤◌, ◌∷◌, [], List, true, ap, sym, subst, ◌∙◌, arith}
 use Rattle.vx_sched.specs.contracts.state.State.{the_view}
 use Rattle.vx_sched.specs.Merging.{is_listed}
 use Rattle.vx_sched.specs.Reads.{Reads, change, take_read, ranges_in_flight}

@@ -1,4 +1,4 @@
-use Rattle.std.proofs.Common.{◌≡◌, true, ap, sym, ◌∙◌, subst}
+use Rattle.std.proofs.Common.{◌≡◌, true, ap, sym, ◌∙◌}
 use Rattle.std.specs.List.{list_all}
 use Rattle.vx_sched.specs.Merging.{first_number}
 use Rattle.vx_sched.specs.Reads.{leads_at}

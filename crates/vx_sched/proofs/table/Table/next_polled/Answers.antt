@@ -1,4 +1,4 @@
-use Rattle.std.proofs.Common.{◌≡◌, ℕ, ◌≤◌, ◌<◌, true, Some, ap, sym, subst, ◌∙◌}
+use Rattle.std.proofs.Common.{◌≡◌, ◌<◌, Some, ap, sym, subst, ◌∙◌}
 use Rattle.vx_sched.specs.Entries.{waiting_in, if_waits, if_polls}
 use Rattle.vx_sched.proofs.SeenLemmas.{stands-kept, waiting-seen, polled-seen}
 use Rattle.vx_sched.proofs.table.Table.next_polled.Goals as goal

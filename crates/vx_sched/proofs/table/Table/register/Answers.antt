@@ -1,6 +1,6 @@
-use Rattle.std.proofs.Common.{◌≡◌, ℕ, ◌≤◌, ◌<◌, ◌^◌, max, None, ap, sym, subst, ◌∙◌, arith, rules}
+use Rattle.std.proofs.Common.{◌≡◌, ℕ, ◌≤◌, ◌<◌, ◌^◌, max, None, sym, subst, arith, rules}
 use Rattle.vx_sched.specs.Entries.{seen}
-use Rattle.vx_sched.specs.Places.{IsKept, AreGrouped}
+use Rattle.vx_sched.specs.Places.{AreGrouped}
 use Rattle.vx_sched.specs.Reads.{read_at}
 use Rattle.vx_sched.proofs.EntriesLemmas.{sorted-put}
 use Rattle.vx_sched.proofs.TableLemmas.{added-table, same-table, fresh-place}

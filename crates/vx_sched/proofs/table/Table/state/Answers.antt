@@ -1,4 +1,4 @@
-use Rattle.std.proofs.Common.{◌≡◌, sym, ◌∙◌, ap, option_map}
+use Rattle.std.proofs.Common.{sym, ◌∙◌, ap, option_map}
 use Rattle.vx_sched.specs.Entries.{state_of}
 use Rattle.vx_sched.proofs.SeenLemmas.{stands-kept, state-seen}
 use Rattle.vx_sched.specs.declared.read.Read.{Read}

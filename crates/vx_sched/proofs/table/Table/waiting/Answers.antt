@@ -1,5 +1,4 @@
-use Rattle.std.proofs.Common.{◌≡◌, sym, ◌∙◌, ap, subst}
-use Rattle.vx_sched.specs.Reads.{waiting_at}
+use Rattle.std.proofs.Common.{sym, ◌∙◌, ap}
 use Rattle.vx_sched.specs.Entries.{if_waits}
 use Rattle.vx_sched.proofs.SeenLemmas.{stands-kept, waiting-seen, waiting-fits}
 use Rattle.vx_sched.proofs.table.Table.waiting.Goals as goal
