@@ -1,13 +1,9 @@
 -- What answers make of ranges.
-use Rattle.std.proofs.Common.{◌≡◌, ℕ, suc, ◌+◌, ◌<◌, ◌≤◌, ◌==◌, Bool, true, false, cond, not, List, [], ◌∷◌, ◌++◌, length, take, drop, find, position, remove, slice_index_or, slice_get, Option, Some, None, Ok, Err, Result, refl, ap, sym, ◌∙◌, arith}
-use Rattle.std.proofs.lemmas.Grind.{common_steps}
+use Rattle.std.proofs.Common.{◌≡◌, ℕ, ◌==◌, Bool, true, false, cond, List, [], ◌∷◌, length, Option, Some, None, Ok, Err, Result, refl, ap, sym, ◌∙◌, arith}
 use Rattle.std.proofs.lemmas.Bool.Decides.{nat_tests}
-use Rattle.std.proofs.lemmas.List.Folds.{find_at}
-use Rattle.std.proofs.lemmas.Option.{slice_get_read, slice_get_past}
-use Rattle.std.proofs.Math.Numerals.{one-add}
-use Rattle.std.specs.List.{position_or_len, AllByRecursion}
+use Rattle.std.specs.List.{AllByRecursion}
 use Rattle.vx_base.specs.Buffer.{Buffer, bytes_at}
-use Rattle.vx_base.specs.Asking.{logged, names, without_first, without_answer, answer_to, mark_of_answer, mark_of_result, IsTrueTo}
+use Rattle.vx_base.specs.Asking.{logged, names, without_answer, answer_to, mark_of_answer, mark_of_result, IsTrueTo}
 use Rattle.vx_base.specs.declared.answer.ReadAtRequest.{ReadAtRequest}
 use Rattle.vx_base.specs.declared.answer.RangeAnswer.{RangeAnswer}
 use Rattle.vx_base.specs.declared.fault.Failed.{Failed}

@@ -1,5 +1,5 @@
 -- The spans of a batch.
-use Rattle.std.proofs.Common.{◌≡◌, ℕ, ◌==◌, min, ◌<◌, ◌≤◌, ◌||◌, max, Bool, true, false, cond, List, [], ◌∷◌, ◌++◌, length, Option, Some, None, refl, ap, sym, ◌∙◌, subst, arith, append_assoc}
+use Rattle.std.proofs.Common.{◌≡◌, ℕ, ◌==◌, min, ◌<◌, ◌≤◌, ◌||◌, max, Bool, true, false, cond, List, [], ◌∷◌, ◌++◌, Option, Some, None, refl, ap, sym, ◌∙◌, subst, arith, append_assoc}
 use Rattle.std.proofs.lemmas.Bool.Decides.{nat_tests}
 use Rattle.std.proofs.lemmas.Bool.{cases_lt}
 use Rattle.std.proofs.lemmas.List.{append-nil}
@@ -8,21 +8,19 @@ use Rattle.std.specs.List.{AllByRecursion, list_any}
 use Rattle.std.specs.BTreeMap.{is_at}
 use Rattle.std.specs.BTreeSet.{BTreeSet, contains}
 use Rattle.std.specs.Ordering.{nat_cmp}
-use Rattle.vx_sched.specs.declared.window.CoalesceConfig.{CoalesceConfig}
 use Rattle.vx_sched.specs.Span.{Span, end_of, AllWithin}
-use Rattle.vx_sched.specs.Reads.{Reads, read_at, waiting_at, if_waiting, is_waiting, is_polled}
-use Rattle.vx_sched.specs.Merging.{Merges, GathersIn, is_listed, is_in_order, is_in_order_after, is_before, first_offset, first_number, greatest_end}
+use Rattle.vx_sched.specs.Reads.{Known, Reads, read_at, waiting_at, polled_at, if_waiting, if_polled, is_waiting, is_polled}
+use Rattle.vx_sched.specs.Merging.{Merges, GathersIn, is_listed, is_in_order, is_in_order_after, is_before, first_offset, greatest_end}
 use Rattle.vx_sched.specs.Picks.{free_at}
-use Rattle.vx_sched.specs.Scheduling.{Scheduler, polled_at, if_polled, IsNext, NonePolled, NonePolledBelow, taken, all_taken, MergesNow, MergesInTurn}
+use Rattle.vx_sched.specs.Law.{IsSound}
+use Rattle.vx_sched.specs.Scheduling.{Scheduler, NonePolled, NonePolledBelow, taken, all_taken, MergesNow, MergesInTurn}
 use Rattle.vx_sched.specs.declared.request.ReadRequest.{ReadRequest}
-use Rattle.vx_sched.specs.declared.read.Read.{Read}
-use Rattle.vx_sched.specs.declared.read.Stage.{Stage}
-use Rattle.vx_sched.specs.declared.read.Stage.TheVariants.{Registered, Polled, InFlight, Resolved}
+use Rattle.vx_sched.specs.declared.read.ReadState.{ReadState}
+use Rattle.vx_sched.specs.declared.read.ReadState.TheVariants.{Registered, Polled, InFlight, Resolved}
 use Rattle.vx_sched.proofs.InsertLemmas.{before-offset, and-true, or-false}
 use Rattle.vx_sched.proofs.PickLemmas.{or-true}
-use Rattle.vx_sched.specs.declared.read.Change.TheVariants.{Take}
-use Rattle.vx_sched.proofs.ReadsLemmas.{all-other}
-use Rattle.vx_sched.proofs.ReadsLemmas.{all-taken as taken-wait}
+use Rattle.vx_sched.proofs.SoundLemmas.{sound-taken, read-taken}
+use Rattle.vx_sched.proofs.LawRuns.{listed-gone}
 
 -- reads within a range lie within a greater one
 within-more : (low m n : ℕ) (reads : List ReadRequest) → m ≤ n → AllWithin low m reads → AllWithin low n reads
@@ -48,13 +46,13 @@ within-range low (r ∷ rest) o l =
     (record { from = l; upto = omega arith }, within-more low (greatest_end rest) (max (end_of r) (greatest_end rest)) rest (omega arith) (within-after low r rest l o))
 
 -- a waiting test over two look-ups that agree
-pub merges-along : (window : Option CoalesceConfig) (alignment : ℕ) (f g : ℕ → Option ReadRequest) (next : ℕ) (span : Span)
-    → ((q : ℕ) → f q ≡ g q) → Merges window alignment f next span → Merges window alignment g next span
-merges-along window alignment f g next span same m = record {
+pub merges-along : (distance limit : Option ℕ) (alignment : ℕ) (f g : ℕ → Option ReadRequest) (next : ℕ) (span : Span)
+    → ((q : ℕ) → f q ≡ g q) → Merges distance limit alignment f next span → Merges distance limit alignment g next span
+merges-along distance limit alignment f g next span same m = record {
   waits = all span.reads m.waits;
   order = m.order;
   serves = m.serves;
-  gathers = gathers window m.gathers;
+  gathers = gathers distance m.gathers;
   range = m.range;
 }
   where
@@ -62,19 +60,19 @@ merges-along window alignment f g next span same m = record {
     all [] h = tt
     all (r ∷ rest) h = (sym (same r.id) ∙ h.0, all rest h.1)
 
-    gathers : (w : Option CoalesceConfig) → GathersIn w alignment f span.reads → GathersIn w alignment g span.reads
+    gathers : (w : Option ℕ) → GathersIn w limit alignment f span.reads → GathersIn w limit alignment g span.reads
     gathers None h = h
-    gathers (Some c) h = record { gaps = h.gaps; limit = h.limit; closure = λ r w u n. h.closure r (same r.id ∙ w) u n }
+    gathers (Some c) h = record { gaps = h.gaps; size = h.size; closure = λ r w u n. h.closure r (same r.id ∙ w) u n }
 
 -- a read that does not wait was not polled
-polled-none : (x : Option Read) → if_waiting x ≡ None → if_polled x ≡ false
+polled-none : (x : Option Known) → if_waiting x ≡ None → if_polled x ≡ false
 polled-none None h = refl
-polled-none (Some x) h = at x.request x.stage h
+polled-none (Some x) h = at x.request x.state h
   where
-    at : (r : ReadRequest) (s : Stage) → cond (is_waiting s) (Some r) None ≡ None → is_polled s ≡ false
+    at : (r : ReadRequest) (s : ReadState) → cond (is_waiting s) (Some r) None ≡ None → is_polled s ≡ false
     at r Registered h = refl
     at r Polled h = cc
-    at r (InFlight _ _ _) h = refl
+    at r InFlight h = refl
     at r Resolved h = refl
 
 -- one more span that is taken
@@ -84,21 +82,27 @@ all_taken-push s (t ∷ rest) span = all_taken-push (taken s t) rest span
 
 -- the spans of a batch so far, and the numbers of their reads
 pub record SoFar (s : Scheduler) (spans : List Span) (before : BTreeSet ℕ) (from : ℕ) : Type 0 where
+  pub sound : IsSound s
+  pub sound_now : IsSound (all_taken s spans)
   pub turn : (rest : List Span) → MergesInTurn (all_taken s spans) rest → MergesInTurn s (spans ++ rest)
   pub others : (q : ℕ) → contains nat_cmp before q ≡ false → read_at (all_taken s spans).reads q ≡ read_at s.reads q
   pub gone : (q : ℕ) → contains nat_cmp before q ≡ true → waiting_at (all_taken s spans).reads q ≡ None
   pub past : (q : ℕ) → q < from → polled_at s.reads q ≡ true → contains nat_cmp before q ≡ true
-  pub window : (all_taken s spans).window ≡ s.window
+  pub distance : (all_taken s spans).distance ≡ s.distance
+  pub limit : (all_taken s spans).limit ≡ s.limit
   pub alignment : (all_taken s spans).alignment ≡ s.alignment
 
 -- at first
-pub so_far-start : (s : Scheduler) (before : BTreeSet ℕ) (from : ℕ) → before.keys ≡ [] → NonePolledBelow s.reads from → SoFar s [] before from
-so_far-start s before from e idle = record {
+pub so_far-start : (s : Scheduler) (before : BTreeSet ℕ) (from : ℕ) → IsSound s → before.keys ≡ [] → NonePolledBelow s.reads from → SoFar s [] before from
+so_far-start s before from sound e idle = record {
+  sound = sound;
+  sound_now = sound;
   turn = λ rest h. h;
   others = λ q h. refl;
   gone = λ q h. cc (sym h ∙ ap (λ ks. list_any (is_at (nat_cmp q)) ks) e);
   past = λ q h p. cc (sym p ∙ idle q h);
-  window = refl;
+  distance = refl;
+  limit = refl;
   alignment = refl;
 }
 
@@ -121,55 +125,55 @@ module _ (s : Scheduler) (spans : List Span) (before : BTreeSet ℕ) (from : ℕ
       at false h = ap (λ b. cond b None (waiting_at s.reads q)) h ∙ sym (ap if_waiting (f.others q h))
 
   module _ (first : ReadRequest) (span : Span) (before' : BTreeSet ℕ)
-      (found : read_at s.reads first.id ≡ Some (record { request = first; stage = Polled }))
+      (found : polled_at s.reads first.id ≡ true)
       (fresh : contains nat_cmp before first.id ≡ false)
       (least : (q : ℕ) → from ≤ q → q < first.id → polled_at s.reads q ≡ true → contains nat_cmp before q ≡ true)
-      (merges : Merges s.window s.alignment (free_at s.reads before) first.id span)
+      (merges : Merges s.distance s.limit s.alignment (free_at s.reads before) first.id span)
       (numbers : (q : ℕ) → contains nat_cmp before' q ≡ (contains nat_cmp before q || is_listed span.reads q)) where
     -- polled reads before the next are taken
     sooner : (q : ℕ) → q < first.id → polled_at s.reads q ≡ true → contains nat_cmp before q ≡ true
     sooner q l p = ⊎_elim (λ (b : q < from). f.past q b p) (λ (g : from ≤ q). least q g l p) (cases_lt q from)
 
-    -- the next read is the polled one of least number
-    is-next : IsNext (all_taken s spans).reads first.id
-    is-next = record {
-      polled = ap if_polled (f.others first.id fresh ∙ found);
-      least = λ q l. at q l (contains nat_cmp before q) refl (polled_at s.reads q) refl;
-    }
+    least-now : (q : ℕ) → q < first.id → polled_at (all_taken s spans).reads q ≡ false
+    least-now q l = at (contains nat_cmp before q) refl (polled_at s.reads q) refl
       where
-        at : (q : ℕ) → q < first.id → (b : Bool) → contains nat_cmp before q ≡ b → (p : Bool) → polled_at s.reads q ≡ p → polled_at (all_taken s spans).reads q ≡ false
-        at q l true h p e = polled-none (read_at (all_taken s spans).reads q) (f.gone q h)
-        at q l false h false e = ap if_polled (f.others q h) ∙ e
-        at q l false h true e = cc (sym h ∙ sooner q l e)
+        at : (b : Bool) → contains nat_cmp before q ≡ b → (p : Bool) → polled_at s.reads q ≡ p → polled_at (all_taken s spans).reads q ≡ false
+        at true h p e = polled-none (read_at (all_taken s spans).reads q) (f.gone q h)
+        at false h false e = ap if_polled (f.others q h) ∙ e
+        at false h true e = cc (sym h ∙ sooner q l e)
 
     -- the span merges from what the earlier ones leave
     merges-now : MergesNow (all_taken s spans) span
     merges-now = record {
       next = first.id;
-      is_next = is-next;
-      merges = rw (f.window, f.alignment) (merges-along s.window s.alignment (free_at s.reads before) (waiting_at (all_taken s spans).reads) first.id span free-waits merges);
+      is_due = ap if_polled (f.others first.id fresh) ∙ found;
+      least = least-now;
+      merges = rw (f.distance, f.limit, f.alignment) (merges-along s.distance s.limit s.alignment (free_at s.reads before) (waiting_at (all_taken s spans).reads) first.id span free-waits merges);
     }
 
     -- with one more span
     pub so_far-step : SoFar s (spans ++ span ∷ []) before' first.id
     so_far-step = record {
+      sound = f.sound;
+      sound_now = subst IsSound (sym (all_taken-push s spans span)) (sound-taken (all_taken s spans) span f.sound_now merges-now);
       turn = λ rest h. rw append_assoc (f.turn (span ∷ rest) (merges-now, subst (λ t. MergesInTurn t rest) (all_taken-push s spans span) h));
       others = λ q h. others q (or-false (contains nat_cmp before q) (is_listed span.reads q) (sym (numbers q) ∙ h));
       gone = λ q h. gone q (is_listed span.reads q) refl (contains nat_cmp before q) refl (sym (numbers q) ∙ h);
       past = λ q l p. numbers q ∙ or-true (contains nat_cmp before q) (is_listed span.reads q) (sooner q l p);
-      window = ap (λ (t : Scheduler). t.window) (all_taken-push s spans span) ∙ f.window;
+      distance = ap (λ (t : Scheduler). t.distance) (all_taken-push s spans span) ∙ f.distance;
+      limit = ap (λ (t : Scheduler). t.limit) (all_taken-push s spans span) ∙ f.limit;
       alignment = ap (λ (t : Scheduler). t.alignment) (all_taken-push s spans span) ∙ f.alignment;
     }
       where
         others : (q : ℕ) → (contains nat_cmp before q ≡ false) × (is_listed span.reads q ≡ false) → read_at (all_taken s (spans ++ span ∷ [])).reads q ≡ read_at s.reads q
         others q h = ap (λ (t : Scheduler). read_at t.reads q) (all_taken-push s spans span)
-            ∙ all-other (Take (first_number span.reads) (length span.reads)) span.reads (all_taken s spans).reads q h.1 ∙ f.others q h.0
+            ∙ read-taken (all_taken s spans) f.sound_now span q h.1 ∙ f.others q h.0
 
         gone : (q : ℕ) (l : Bool) → is_listed span.reads q ≡ l → (b : Bool) → contains nat_cmp before q ≡ b → (contains nat_cmp before q || is_listed span.reads q) ≡ true → waiting_at (all_taken s (spans ++ span ∷ [])).reads q ≡ None
         gone q true e b c h = ap (λ (t : Scheduler). waiting_at t.reads q) (all_taken-push s spans span)
-            ∙ taken-wait (first_number span.reads) (length span.reads) span.reads (all_taken s spans).reads q e
+            ∙ listed-gone (all_taken s spans) span q f.sound_now e
         gone q false e true c h = ap (λ (t : Scheduler). waiting_at t.reads q) (all_taken-push s spans span)
-            ∙ ap if_waiting (all-other (Take (first_number span.reads) (length span.reads)) span.reads (all_taken s spans).reads q e) ∙ f.gone q c
+            ∙ ap if_waiting (read-taken (all_taken s spans) f.sound_now span q e) ∙ f.gone q c
         gone q false e false c h = absurd (clash (contains nat_cmp before q) (is_listed span.reads q) c e h)
           where
             clash : (a b : Bool) → a ≡ false → b ≡ false → (a || b) ≡ true → ⊥
@@ -202,5 +206,5 @@ idle-taken s span from least reads m idle below keeps q l =
     (λ (h : from ≤ q).
     let bound = below m.next m.merges.serves in
     let early : q < m.next = omega (arith, bound) in
-    m.is_next.least q early)
+    m.least q early)
     (cases_lt q from))

@@ -138,7 +138,7 @@ insert-gaps-after d reach r (s ∷ rest) g h =
     at false e step = (g.0, step)
 
 -- gaps stay, where the read begins near the range
-pub insert-gaps : (d : ℕ) (r : ReadRequest) (reads : List ReadRequest) → HasNoWideGap d reads → first_offset reads ≤ r.offset + d → r.offset ≤ greatest_end reads + d → HasNoWideGap d (insert_read r reads)
+pub insert-gaps : (d : ℕ) (r : ReadRequest) (reads : List ReadRequest) → HasNoWideGap d reads → first_offset reads ≤ end_of r + d → r.offset ≤ greatest_end reads + d → HasNoWideGap d (insert_read r reads)
 insert-gaps d r [] g f h = tt
 insert-gaps d r (s ∷ rest) g f h = at (is_before r s)
   where

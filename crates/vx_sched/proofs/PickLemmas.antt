@@ -1,5 +1,5 @@
 -- One more read is picked.
-use Rattle.std.proofs.Common.{◌≡◌, ℕ, suc, get_or, drop-cons, add-one, ◌^◌, ◌%◌, ◌*◌, ◌/◌, drop, ◌+◌, ◌-◌, ◌<◌, ◌≤◌, ◌==◌, ◌||◌, min, max, Bool, true, false, List, ◌∷◌, length, Some, refl, ap, sym, ◌∙◌, subst, ⊎_elim, arith}
+use Rattle.std.proofs.Common.{◌≡◌, ℕ, suc, get_or, drop-cons, add-one, ◌^◌, ◌%◌, ◌*◌, ◌/◌, drop, ◌+◌, ◌-◌, ◌<◌, ◌≤◌, ◌==◌, ◌||◌, min, max, Bool, true, false, List, ◌∷◌, length, Option, Some, None, refl, ap, sym, ◌∙◌, subst, ⊎_elim, arith}
 use Rattle.std.proofs.lemmas.Bool.{cases_lt}
 use Rattle.std.proofs.lemmas.Bool.Decides.{nat_tests}
 use Rattle.std.specs.BTreeSet.{BTreeSet}
@@ -9,10 +9,9 @@ use Rattle.std.specs.List.{AllByRecursion, list_any}
 use Rattle.std.proofs.Math.Nat.{div-add-mod, div-add-mod', mul-le-mul_left}
 use Rattle.std.proofs.lemmas.Nat.{le-div, pow_pos}
 use Rattle.std.proofs.lemmas.List.{drop_all}
-use Rattle.vx_base.specs.Aligned.{align_down}
 use Rattle.vx_sched.specs.Span.{end_of}
 use Rattle.vx_sched.specs.Reads.{Reads}
-use Rattle.vx_sched.specs.Merging.{HasNoWideGap, IsTooLong, first_offset, greatest_end, is_in_order, is_listed}
+use Rattle.vx_sched.specs.Merging.{HasNoWideGap, IsTooLong, IsLonger, IsWithinLimit, aligned_size, first_offset, greatest_end, is_in_order, is_listed}
 use Rattle.vx_sched.specs.Insert.{insert_read}
 use Rattle.vx_sched.specs.Places.{place_cmp}
 use Rattle.vx_sched.specs.Picks.{IsPicked, PickedMore, ArePlaced, IsLookedAt, AreLookedAt, free_at}
@@ -38,8 +37,8 @@ pub record Added (rules : Rules) (reads : Reads) (before : BTreeSet ℕ) (old ne
 
 module _ (rules : Rules) (reads : Reads) (before : BTreeSet ℕ) (old new : Picks) (r : ReadRequest) (p : IsPicked rules reads before old)
     (free : free_at reads before r.id ≡ Some r) (unlisted : is_listed (values old.reads) r.id ≡ false)
-    (left : old.low ≤ r.offset + rules.distance) (right : r.offset ≤ old.high + rules.distance)
-    (short : max old.high (end_of r) - align_down rules.alignment (min old.low r.offset) ≤ rules.limit)
+    (left : old.low ≤ end_of r + rules.distance) (right : r.offset ≤ old.high + rules.distance)
+    (short : IsWithinLimit rules.limit (aligned_size rules.alignment (min old.low r.offset) (max old.high (end_of r))))
     (es : new.reads.entries ≡ insert_entry place_cmp old.reads.entries (r.offset, r.id) r)
     (lo : new.low ≡ min old.low r.offset) (hi : new.high ≡ max old.high (end_of r)) where
   rs : values new.reads ≡ insert_read r (values old.reads)
@@ -60,7 +59,7 @@ module _ (rules : Rules) (reads : Reads) (before : BTreeSet ℕ) (old new : Pick
     high = hi ∙ ap (λ n. max n (end_of r)) p.high ∙ sym (greatest_end-insert r (values old.reads)) ∙ ap greatest_end (sym rs);
     forward = omega (arith, lo, hi, p.forward);
     some = omega (arith, length-now);
-    gaps = subst (λ xs. HasNoWideGap rules.distance xs) (sym rs) (insert-gaps rules.distance r (values old.reads) p.gaps (subst (λ n. n ≤ r.offset + rules.distance) p.low left) (subst (λ n. r.offset ≤ n + rules.distance) p.high right));
+    gaps = subst (λ xs. HasNoWideGap rules.distance xs) (sym rs) (insert-gaps rules.distance r (values old.reads) p.gaps (subst (λ n. n ≤ end_of r + rules.distance) p.low left) (subst (λ n. r.offset ≤ n + rules.distance) p.high right));
     limit = λ _. rw (lo, hi) short;
   }
 
@@ -88,21 +87,25 @@ down-mono k m n pos h =
     rw (a, b) (mul-le-mul_left k (le-div (m / k) n k pos c))
 
 -- a range that is too long stays so
-too_long-more : (limit alignment low high low' high' : ℕ) (r : ReadRequest) → low' ≤ low → high ≤ high' → IsTooLong limit alignment low high r → IsTooLong limit alignment low' high' r
+longer-more : (limit : Option ℕ) (m n : ℕ) → m ≤ n → IsLonger limit m → IsLonger limit n
+longer-more None m n h t = t
+longer-more (Some limit) m n h t = omega arith
+
+too_long-more : (limit : Option ℕ) (alignment low high low' high' : ℕ) (r : ReadRequest) → low' ≤ low → high ≤ high' → IsTooLong limit alignment low high r → IsTooLong limit alignment low' high' r
 too_long-more limit alignment low high low' high' r l h t =
     let d = down-mono (2 ^ alignment) (min low' r.offset) (min low r.offset) (pow_pos alignment) (omega arith) in
-    omega (arith, d)
+    longer-more limit (aligned_size alignment (min low r.offset) (max high (end_of r))) (aligned_size alignment (min low' r.offset) (max high' (end_of r))) (omega (arith, d)) t
 
 false-back : (a b : Bool) → (a ≡ true → b ≡ true) → b ≡ false → a ≡ false
 false-back true b h e = absurd (cc (h refl))
 false-back false b h e = refl
 
 -- what was looked at stays looked at
-pub looked-more : (rules : Rules) (reads : Reads) (before : BTreeSet ℕ) (left right : ℕ) (old new : Picks) (id : ℕ) → PickedMore old new
-    → IsLookedAt rules reads before left right old id → IsLookedAt rules reads before left right new id
-looked-more rules reads before left right old new id m looked r free l h unlisted =
+pub looked-more : (rules : Rules) (reads : Reads) (before : BTreeSet ℕ) (left from right : ℕ) (old new : Picks) (id : ℕ) → PickedMore old new
+    → IsLookedAt rules reads before left from right old id → IsLookedAt rules reads before left from right new id
+looked-more rules reads before left from right old new id m looked r free l f h unlisted =
     too_long-more rules.limit rules.alignment old.low old.high new.low new.high r m.low m.high
-    (looked r free l h (false-back (is_listed (values old.reads) id) (is_listed (values new.reads) id) (m.kept id) unlisted))
+    (looked r free l f h (false-back (is_listed (values old.reads) id) (is_listed (values new.reads) id) (m.kept id) unlisted))
 
 -- picking goes on
 pub more-trans : (a b c : Picks) → PickedMore a b → PickedMore b c → PickedMore a c
@@ -116,43 +119,48 @@ pub more-refl : (a : Picks) → PickedMore a a
 more-refl a = record { kept = λ id h. h; low = omega arith; high = omega arith }
 
 -- a look at one more number
-pub looked-step : (rules : Rules) (reads : Reads) (before : BTreeSet ℕ) (left right : ℕ) (old new : Picks) (id : ℕ) (rest : List ℕ) → PickedMore old new
-    → ((q : ℕ) → list_any (λ n. n == q) (id ∷ rest) ≡ false → IsLookedAt rules reads before left right old q)
-    → IsLookedAt rules reads before left right new id
-    → (q : ℕ) → list_any (λ n. n == q) rest ≡ false → IsLookedAt rules reads before left right new q
-looked-step rules reads before left right old new id rest m before-it it q h = at (id == q) refl
+pub looked-step : (rules : Rules) (reads : Reads) (before : BTreeSet ℕ) (left from right : ℕ) (old new : Picks) (id : ℕ) (rest : List ℕ) → PickedMore old new
+    → ((q : ℕ) → list_any (λ n. n == q) (id ∷ rest) ≡ false → IsLookedAt rules reads before left from right old q)
+    → IsLookedAt rules reads before left from right new id
+    → (q : ℕ) → list_any (λ n. n == q) rest ≡ false → IsLookedAt rules reads before left from right new q
+looked-step rules reads before left from right old new id rest m before-it it q h = at (id == q) refl
   where
-    at : (b : Bool) → (id == q) ≡ b → IsLookedAt rules reads before left right new q
+    at : (b : Bool) → (id == q) ≡ b → IsLookedAt rules reads before left from right new q
     at true e =
         let q-is : id ≡ q = grind (arith, nat_tests) in
-        subst (λ n. IsLookedAt rules reads before left right new n) q-is it
-    at false e = looked-more rules reads before left right old new q m (before-it q (ap (λ b. b || list_any (λ n. n == q) rest) e ∙ h))
+        subst (λ n. IsLookedAt rules reads before left from right new n) q-is it
+    at false e = looked-more rules reads before left from right old new q m (before-it q (ap (λ b. b || list_any (λ n. n == q) rest) e ∙ h))
 
 -- a look at one more number of a list
-pub looked-loop : (rules : Rules) (reads : Reads) (before : BTreeSet ℕ) (left right : ℕ) (old new : Picks) (xs : List ℕ) (i : ℕ) → i < length xs → PickedMore old new
-    → ((q : ℕ) → list_any (λ n. n == q) (drop i xs) ≡ false → IsLookedAt rules reads before left right old q)
-    → IsLookedAt rules reads before left right new (get_or xs i 0)
-    → (q : ℕ) → list_any (λ n. n == q) (drop (i + 1) xs) ≡ false → IsLookedAt rules reads before left right new q
-looked-loop rules reads before left right old new xs i l m inv it q h =
+pub looked-loop : (rules : Rules) (reads : Reads) (before : BTreeSet ℕ) (left from right : ℕ) (old new : Picks) (xs : List ℕ) (i : ℕ) → i < length xs → PickedMore old new
+    → ((q : ℕ) → list_any (λ n. n == q) (drop i xs) ≡ false → IsLookedAt rules reads before left from right old q)
+    → IsLookedAt rules reads before left from right new (get_or xs i 0)
+    → (q : ℕ) → list_any (λ n. n == q) (drop (i + 1) xs) ≡ false → IsLookedAt rules reads before left from right new q
+looked-loop rules reads before left from right old new xs i l m inv it q h =
     let cons = drop-cons xs i 0 l in
     let rest : list_any (λ n. n == q) (drop (suc i) xs) ≡ false = rw add-one at h in
-    looked-step rules reads before left right old new (get_or xs i 0) (drop (suc i) xs) m
+    looked-step rules reads before left from right old new (get_or xs i 0) (drop (suc i) xs) m
     (λ p (k : list_any (λ n. n == p) (get_or xs i 0 ∷ drop (suc i) xs) ≡ false). inv p (rw cons k)) it q rest
 
 -- no number is left to look at
 pub none-left : (xs : List ℕ) (i q : ℕ) → length xs ≤ i → list_any (λ n. n == q) (drop i xs) ≡ false
 none-left xs i q h = rw (drop_all i xs h) refl
 
+-- what was looked at from the start was looked at from an offset on
+pub looked-from : (rules : Rules) (reads : Reads) (before : BTreeSet ℕ) (left from right : ℕ) (picks : Picks) (id : ℕ)
+    → IsLookedAt rules reads before left 0 right picks id → IsLookedAt rules reads before left from right picks id
+looked-from rules reads before left from right picks id looked r free l f h unlisted = looked r free l (omega arith) h unlisted
+
 -- more picks, with the reads before the ones that were looked at
 pub looked-before : (rules : Rules) (reads : Reads) (before : BTreeSet ℕ) (left from right : ℕ) (old new : Picks) → PickedMore old new
-    → AreLookedAt rules reads before from right old → AreLookedAt rules reads before left (from - 1) new → AreLookedAt rules reads before left right new
-looked-before rules reads before left from right old new m seen more id r free l h unlisted =
-    ⊎_elim (λ (outside : r.offset < from). more id r free l (omega arith) unlisted)
-    (λ inside. looked-more rules reads before from right old new id m (seen id) r free inside h unlisted) (cases_lt r.offset from)
+    → AreLookedAt rules reads before from 0 right old → AreLookedAt rules reads before left 0 (from - 1) new → AreLookedAt rules reads before left 0 right new
+looked-before rules reads before left from right old new m seen more id r free l f h unlisted =
+    ⊎_elim (λ (outside : r.offset < from). more id r free l f (omega arith) unlisted)
+    (λ (inside : from ≤ r.offset). looked-more rules reads before from 0 right old new id m (seen id) r free (omega arith) f h unlisted) (cases_lt r.offset from)
 
 -- more picks, with the reads after the ones that were looked at
 pub looked-after : (rules : Rules) (reads : Reads) (before : BTreeSet ℕ) (left upto right : ℕ) (old new : Picks) → PickedMore old new
-    → AreLookedAt rules reads before left upto old → AreLookedAt rules reads before (upto + 1) right new → AreLookedAt rules reads before left right new
-looked-after rules reads before left upto right old new m seen more id r free l h unlisted =
-    ⊎_elim (λ (outside : upto < r.offset). more id r free (omega arith) h unlisted)
-    (λ inside. looked-more rules reads before left upto old new id m (seen id) r free l inside unlisted) (cases_lt upto r.offset)
+    → AreLookedAt rules reads before left 0 upto old → AreLookedAt rules reads before left (upto + 1) right new → AreLookedAt rules reads before left 0 right new
+looked-after rules reads before left upto right old new m seen more id r free l f h unlisted =
+    ⊎_elim (λ (outside : upto < r.offset). more id r free l (omega arith) h unlisted)
+    (λ inside. looked-more rules reads before left 0 upto old new id m (seen id) r free l f inside unlisted) (cases_lt upto r.offset)

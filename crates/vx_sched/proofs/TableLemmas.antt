@@ -1,5 +1,5 @@
 -- A table of reads and places, after a change.
-use Rattle.std.proofs.Common.{◌≡◌, ℕ, ◌≤◌, ◌||◌, List, [], ◌∷◌, map, ◌<◌, ◌^◌, ◌==◌, ◌&&◌, not, Bool, true, false, cond, Option, Some, None, option_map, refl, ap, sym, ◌∙◌, arith, subst, unwrap_or}
+use Rattle.std.proofs.Common.{◌≡◌, ℕ, ◌≤◌, ◌||◌, List, [], ◌∷◌, map, max, ◌-◌, ◌<◌, ◌^◌, ◌==◌, ◌&&◌, not, Bool, true, false, cond, Option, Some, None, option_map, refl, ap, sym, ◌∙◌, arith, subst, unwrap_or}
 use Rattle.std.proofs.lemmas.Bool.Decides.{nat_tests}
 use Rattle.std.specs.List.{list_any, filter}
 use Rattle.std.specs.BTreeMap.{is_at}
@@ -8,10 +8,10 @@ use Rattle.std.specs.BTreeMap.Range.{range_contains}
 use Rattle.std.specs.declared.ops.Bound.TheVariants.{Included}
 use Rattle.std.specs.Ordering.{nat_cmp}
 use Rattle.vx_sched.specs.Span.{end_of}
-use Rattle.vx_sched.specs.Reads.{Reads, read_at, waiting_at, if_waiting, is_waiting, is_polled, is_poll, after}
-use Rattle.vx_sched.specs.Scheduling.{polled_at, if_polled}
-use Rattle.std.specs.Option.{option_map_or}
-use Rattle.vx_sched.specs.Places.{place_cmp, waits_at, stays_waiting, IsTable}
+use Rattle.std.specs.List.Sorted.{IsStrictlySortedBy}
+use Rattle.std.specs.Map.{keys_of}
+use Rattle.vx_sched.specs.Entries.{Entries, entry_at, waiting_in, if_waits, waits_in, after}
+use Rattle.vx_sched.specs.Places.{place_cmp, waits_at, stays_waiting, IsKept}
 use Rattle.vx_sched.specs.declared.request.ReadRequest.{ReadRequest}
 use Rattle.vx_sched.specs.declared.read.Read.{Read}
 use Rattle.vx_sched.specs.declared.read.Stage.{Stage}
@@ -28,7 +28,7 @@ pub place-eq : (a b c d : ℕ) → is_at (place_cmp (a, b)) (c, d) ≡ ((a == c)
 place-eq a b c d = grind (arith, nat_tests)
 
 -- no change lets a read wait that did not
-pub after-waits : (change : Change) (stage : Stage) → is_waiting stage ≡ false → stays_waiting (after change stage) ≡ false
+pub after-waits : (change : Change) (stage : Stage) → waits_in stage ≡ false → stays_waiting (after change stage) ≡ false
 after-waits Poll Registered h = cc
 after-waits Poll Polled h = cc
 after-waits Poll (InFlight _ _ _) h = refl
@@ -79,40 +79,42 @@ put-keeps : (P : ℕ → ReadRequest → Type 0) (q : ℕ) (r : ReadRequest) (st
 put-keeps P q r stage old y true here there h = subst (P q) (sym (put-request r stage y h)) (here refl)
 put-keeps P q r stage old y false here there h = there y h
 
-module _ (reads reads' : Reads) (places places' : BTreeSet (ℕ × ℕ)) (x : Read) (stage : Option Stage) (t : IsTable reads places)
-    (found : read_at reads x.request.id ≡ Some x) (waits : is_waiting x.stage ≡ false → stays_waiting stage ≡ false)
-    (lookups : (q : ℕ) → read_at reads' q ≡ cond (is_at (nat_cmp x.request.id) q) (option_map (λ s. record { request = x.request; stage = s }) stage) (read_at reads q))
-    (placed : (k : ℕ × ℕ) → contains place_cmp places' k ≡ cond ((is_waiting x.stage && not (stays_waiting stage)) && is_at (place_cmp (x.request.offset, x.request.id)) k) false (contains place_cmp places k)) where
+module _ (reads reads' : Entries) (places places' : BTreeSet (ℕ × ℕ)) (longest : ℕ) (x : Read) (stage : Option Stage) (t : IsKept reads places longest) (sorted : IsStrictlySortedBy nat_cmp (keys_of reads'))
+    (found : entry_at reads x.request.id ≡ Some x) (waits : waits_in x.stage ≡ false → stays_waiting stage ≡ false)
+    (lookups : (q : ℕ) → entry_at reads' q ≡ cond (is_at (nat_cmp x.request.id) q) (option_map (λ s. record { request = x.request; stage = s }) stage) (entry_at reads q))
+    (placed : (k : ℕ × ℕ) → contains place_cmp places' k ≡ cond ((waits_in x.stage && not (stays_waiting stage)) && is_at (place_cmp (x.request.offset, x.request.id)) k) false (contains place_cmp places k)) where
   -- the look-up of a number, by a test of numbers
-  found-at : (q : ℕ) → read_at reads' q ≡ cond (x.request.id == q) (option_map (λ s. record { request = x.request; stage = s }) stage) (read_at reads q)
-  found-at q = lookups q ∙ ap (λ b. cond b (option_map (λ s. record { request = x.request; stage = s }) stage) (read_at reads q)) (at-eq x.request.id q)
+  found-at : (q : ℕ) → entry_at reads' q ≡ cond (x.request.id == q) (option_map (λ s. record { request = x.request; stage = s }) stage) (entry_at reads q)
+  found-at q = lookups q ∙ ap (λ b. cond b (option_map (λ s. record { request = x.request; stage = s }) stage) (entry_at reads q)) (at-eq x.request.id q)
 
-  tied-at : (o q : ℕ) (same : Bool) → (x.request.id == q) ≡ same → contains place_cmp places' (o, q) ≡ waits_at o (read_at reads' q)
+  tied-at : (o q : ℕ) (same : Bool) → (x.request.id == q) ≡ same → contains place_cmp places' (o, q) ≡ waits_at o (entry_at reads' q)
   tied-at o q true e =
       let q-is : x.request.id ≡ q = grind (arith, nat_tests) in
-      let here : read_at reads q ≡ Some x = subst (λ n. read_at reads n ≡ Some x) q-is found in
+      let here : entry_at reads q ≡ Some x = subst (λ n. entry_at reads n ≡ Some x) q-is found in
       placed (o, q)
-      ∙ ap (λ b. cond ((is_waiting x.stage && not (stays_waiting stage)) && b) false (contains place_cmp places (o, q))) (place-eq x.request.offset x.request.id o q)
-      ∙ ap (λ b. cond ((is_waiting x.stage && not (stays_waiting stage)) && ((x.request.offset == o) && b)) false (contains place_cmp places (o, q))) e
-      ∙ ap (λ b. cond ((is_waiting x.stage && not (stays_waiting stage)) && ((x.request.offset == o) && true)) false b) (t.tied o q ∙ ap (waits_at o) here)
-      ∙ tied-same (is_waiting x.stage) (stays_waiting stage) (x.request.offset == o) waits
+      ∙ ap (λ b. cond ((waits_in x.stage && not (stays_waiting stage)) && b) false (contains place_cmp places (o, q))) (place-eq x.request.offset x.request.id o q)
+      ∙ ap (λ b. cond ((waits_in x.stage && not (stays_waiting stage)) && ((x.request.offset == o) && b)) false (contains place_cmp places (o, q))) e
+      ∙ ap (λ b. cond ((waits_in x.stage && not (stays_waiting stage)) && ((x.request.offset == o) && true)) false b) (t.tied o q ∙ ap (waits_at o) here)
+      ∙ tied-same (waits_in x.stage) (stays_waiting stage) (x.request.offset == o) waits
       ∙ sym (waits_at-put o x.request stage)
-      ∙ sym (ap (waits_at o) (found-at q ∙ ap (λ b. cond b (option_map (λ s. record { request = x.request; stage = s }) stage) (read_at reads q)) e))
+      ∙ sym (ap (waits_at o) (found-at q ∙ ap (λ b. cond b (option_map (λ s. record { request = x.request; stage = s }) stage) (entry_at reads q)) e))
   tied-at o q false e =
       placed (o, q)
-      ∙ ap (λ b. cond ((is_waiting x.stage && not (stays_waiting stage)) && b) false (contains place_cmp places (o, q))) (place-eq x.request.offset x.request.id o q)
-      ∙ ap (λ b. cond ((is_waiting x.stage && not (stays_waiting stage)) && ((x.request.offset == o) && b)) false (contains place_cmp places (o, q))) e
-      ∙ tied-other (is_waiting x.stage && not (stays_waiting stage)) (x.request.offset == o) (contains place_cmp places (o, q))
+      ∙ ap (λ b. cond ((waits_in x.stage && not (stays_waiting stage)) && b) false (contains place_cmp places (o, q))) (place-eq x.request.offset x.request.id o q)
+      ∙ ap (λ b. cond ((waits_in x.stage && not (stays_waiting stage)) && ((x.request.offset == o) && b)) false (contains place_cmp places (o, q))) e
+      ∙ tied-other (waits_in x.stage && not (stays_waiting stage)) (x.request.offset == o) (contains place_cmp places (o, q))
       ∙ t.tied o q
-      ∙ sym (ap (waits_at o) (found-at q ∙ ap (λ b. cond b (option_map (λ s. record { request = x.request; stage = s }) stage) (read_at reads q)) e))
+      ∙ sym (ap (waits_at o) (found-at q ∙ ap (λ b. cond b (option_map (λ s. record { request = x.request; stage = s }) stage) (entry_at reads q)) e))
 
   -- a table stays one where a read in it changes its stage or goes
-  pub changed-table : IsTable reads' places'
+  pub changed-table : IsKept reads' places' longest
   changed-table = record {
+    sorted = sorted;
     tied = λ o q. tied-at o q (x.request.id == q) refl;
-    keyed = λ q y h. put-keeps (λ n r. r.id ≡ n) q x.request stage (read_at reads q) y (x.request.id == q) (λ e. grind (arith, nat_tests)) (t.keyed q) (sym (found-at q) ∙ h);
-    small = λ q y h. put-keeps (λ n r. n < 2 ^ 64) q x.request stage (read_at reads q) y (x.request.id == q) (λ e. let s = t.small x.request.id x found in grind (arith, nat_tests)) (t.small q) (sym (found-at q) ∙ h);
-    fits = λ q y h. put-keeps (λ n r. end_of r < 2 ^ 64) q x.request stage (read_at reads q) y (x.request.id == q) (λ _. t.fits x.request.id x found) (t.fits q) (sym (found-at q) ∙ h);
+    keyed = λ q y h. put-keeps (λ n r. r.id ≡ n) q x.request stage (entry_at reads q) y (x.request.id == q) (λ e. grind (arith, nat_tests)) (t.keyed q) (sym (found-at q) ∙ h);
+    small = λ q y h. put-keeps (λ n r. n < 2 ^ 64) q x.request stage (entry_at reads q) y (x.request.id == q) (λ e. let s = t.small x.request.id x found in grind (arith, nat_tests)) (t.small q) (sym (found-at q) ∙ h);
+    long = λ q y h. put-keeps (λ n r. r.length ≤ longest) q x.request stage (entry_at reads q) y (x.request.id == q) (λ _. t.long x.request.id x found) (t.long q) (sym (found-at q) ∙ h);
+    fits = λ q y h. put-keeps (λ n r. end_of r < 2 ^ 64) q x.request stage (entry_at reads q) y (x.request.id == q) (λ _. t.fits x.request.id x found) (t.fits q) (sym (found-at q) ∙ h);
   }
 
 -- a place that was put in and taken out again
@@ -130,25 +132,27 @@ placed-back s p k mid new absent put taken = back (is_at (place_cmp p) k) refl
     back false e = taken ∙ ap (λ c. cond c false mid) e ∙ put ∙ ap (λ c. cond c true (contains place_cmp s k)) e
 
 -- a table whose entries and places are the same
-pub same-table : (reads reads' : Reads) (places places' : BTreeSet (ℕ × ℕ)) → IsTable reads places → reads' ≡ reads
-    → ((k : ℕ × ℕ) → contains place_cmp places' k ≡ contains place_cmp places k) → IsTable reads' places'
-same-table reads reads' places places' t e same = rw e (record {
+pub same-table : (reads reads' : Entries) (places places' : BTreeSet (ℕ × ℕ)) (longest : ℕ) → IsKept reads places longest → reads' ≡ reads
+    → ((k : ℕ × ℕ) → contains place_cmp places' k ≡ contains place_cmp places k) → IsKept reads' places' longest
+same-table reads reads' places places' longest t e same = rw e (record {
+  sorted = t.sorted;
   tied = λ o q. same (o, q) ∙ t.tied o q;
   keyed = t.keyed;
   small = t.small;
+  long = t.long;
   fits = t.fits;
 })
 
 -- nothing waits at the place of a new read
-pub fresh-place : (reads : Reads) (places : BTreeSet (ℕ × ℕ)) (r : ReadRequest) → IsTable reads places → read_at reads r.id ≡ None → contains place_cmp places (r.offset, r.id) ≡ false
-fresh-place reads places r t fresh = t.tied r.offset r.id ∙ ap (waits_at r.offset) fresh
+pub fresh-place : (reads : Entries) (places : BTreeSet (ℕ × ℕ)) (longest : ℕ) (r : ReadRequest) → IsKept reads places longest → entry_at reads r.id ≡ None → contains place_cmp places (r.offset, r.id) ≡ false
+fresh-place reads places longest r t fresh = t.tied r.offset r.id ∙ ap (waits_at r.offset) fresh
 
-module _ (reads reads' : Reads) (places places' : BTreeSet (ℕ × ℕ)) (r : ReadRequest) (t : IsTable reads places)
-    (fresh : read_at reads r.id ≡ None) (number : r.id < 2 ^ 64) (ends : end_of r < 2 ^ 64)
-    (lookups : (q : ℕ) → read_at reads' q ≡ cond (is_at (nat_cmp r.id) q) (Some (record { request = r; stage = Registered })) (read_at reads q))
+module _ (reads reads' : Entries) (places places' : BTreeSet (ℕ × ℕ)) (longest : ℕ) (r : ReadRequest) (t : IsKept reads places longest) (sorted : IsStrictlySortedBy nat_cmp (keys_of reads'))
+    (fresh : entry_at reads r.id ≡ None) (number : r.id < 2 ^ 64) (ends : end_of r < 2 ^ 64)
+    (lookups : (q : ℕ) → entry_at reads' q ≡ cond (is_at (nat_cmp r.id) q) (Some (record { request = r; stage = Registered })) (entry_at reads q))
     (placed : (k : ℕ × ℕ) → contains place_cmp places' k ≡ cond (is_at (place_cmp (r.offset, r.id)) k) true (contains place_cmp places k)) where
-  added-at : (q : ℕ) → read_at reads' q ≡ cond (r.id == q) (Some (record { request = r; stage = Registered })) (read_at reads q)
-  added-at q = lookups q ∙ ap (λ b. cond b (Some (record { request = r; stage = Registered })) (read_at reads q)) (at-eq r.id q)
+  added-at : (q : ℕ) → entry_at reads' q ≡ cond (r.id == q) (Some (record { request = r; stage = Registered })) (entry_at reads q)
+  added-at q = lookups q ∙ ap (λ b. cond b (Some (record { request = r; stage = Registered })) (entry_at reads q)) (at-eq r.id q)
 
   added-place : (e x : Bool) → x ≡ false → cond (e && true) true x ≡ e
   added-place true x h = refl
@@ -158,30 +162,35 @@ module _ (reads reads' : Reads) (places places' : BTreeSet (ℕ × ℕ)) (r : Re
   other-place true x = refl
   other-place false x = refl
 
-  added-tied : (o q : ℕ) (same : Bool) → (r.id == q) ≡ same → contains place_cmp places' (o, q) ≡ waits_at o (read_at reads' q)
+  added-tied : (o q : ℕ) (same : Bool) → (r.id == q) ≡ same → contains place_cmp places' (o, q) ≡ waits_at o (entry_at reads' q)
   added-tied o q true e =
       let q-is : r.id ≡ q = grind (arith, nat_tests) in
-      let none : read_at reads q ≡ None = subst (λ n. read_at reads n ≡ None) q-is fresh in
+      let none : entry_at reads q ≡ None = subst (λ n. entry_at reads n ≡ None) q-is fresh in
       placed (o, q)
       ∙ ap (λ b. cond b true (contains place_cmp places (o, q))) (place-eq r.offset r.id o q)
       ∙ ap (λ b. cond ((r.offset == o) && b) true (contains place_cmp places (o, q))) e
       ∙ added-place (r.offset == o) (contains place_cmp places (o, q)) (t.tied o q ∙ ap (waits_at o) none)
-      ∙ sym (ap (waits_at o) (added-at q ∙ ap (λ b. cond b (Some (record { request = r; stage = Registered })) (read_at reads q)) e))
+      ∙ sym (ap (waits_at o) (added-at q ∙ ap (λ b. cond b (Some (record { request = r; stage = Registered })) (entry_at reads q)) e))
   added-tied o q false e =
       placed (o, q)
       ∙ ap (λ b. cond b true (contains place_cmp places (o, q))) (place-eq r.offset r.id o q)
       ∙ ap (λ b. cond ((r.offset == o) && b) true (contains place_cmp places (o, q))) e
       ∙ other-place (r.offset == o) (contains place_cmp places (o, q))
       ∙ t.tied o q
-      ∙ sym (ap (waits_at o) (added-at q ∙ ap (λ b. cond b (Some (record { request = r; stage = Registered })) (read_at reads q)) e))
+      ∙ sym (ap (waits_at o) (added-at q ∙ ap (λ b. cond b (Some (record { request = r; stage = Registered })) (entry_at reads q)) e))
+
+  le-max : {m : ℕ} → m ≤ longest → m ≤ max longest r.length
+  le-max h = omega arith
 
   -- a table with a new read is a table
-  pub added-table : IsTable reads' places'
+  pub added-table : IsKept reads' places' (max longest r.length)
   added-table = record {
+    sorted = sorted;
     tied = λ o q. added-tied o q (r.id == q) refl;
-    keyed = λ q y h. put-keeps (λ n s. s.id ≡ n) q r (Some Registered) (read_at reads q) y (r.id == q) (λ e. grind (arith, nat_tests)) (t.keyed q) (sym (added-at q) ∙ h);
-    small = λ q y h. put-keeps (λ n s. n < 2 ^ 64) q r (Some Registered) (read_at reads q) y (r.id == q) (λ e. grind (arith, nat_tests)) (t.small q) (sym (added-at q) ∙ h);
-    fits = λ q y h. put-keeps (λ n s. end_of s < 2 ^ 64) q r (Some Registered) (read_at reads q) y (r.id == q) (λ _. ends) (t.fits q) (sym (added-at q) ∙ h);
+    keyed = λ q y h. put-keeps (λ n s. s.id ≡ n) q r (Some Registered) (entry_at reads q) y (r.id == q) (λ e. grind (arith, nat_tests)) (t.keyed q) (sym (added-at q) ∙ h);
+    small = λ q y h. put-keeps (λ n s. n < 2 ^ 64) q r (Some Registered) (entry_at reads q) y (r.id == q) (λ e. grind (arith, nat_tests)) (t.small q) (sym (added-at q) ∙ h);
+    long = λ q y h. put-keeps (λ n s. s.length ≤ max longest r.length) q r (Some Registered) (entry_at reads q) y (r.id == q) (λ _. omega arith) (λ z k. le-max (t.long q z k)) (sym (added-at q) ∙ h);
+    fits = λ q y h. put-keeps (λ n s. end_of s < 2 ^ 64) q r (Some Registered) (entry_at reads q) y (r.id == q) (λ _. ends) (t.fits q) (sym (added-at q) ∙ h);
   }
 
 -- a place that is among those within bounds
@@ -214,12 +223,12 @@ near-listed p o q inside (k ∷ ks) h = at (is_at (place_cmp (o, q)) k) refl h (
     at false e h step = skip (p k) (step h)
 
 -- a waiting read has its place
-pub waiting-placed : (reads : Reads) (places : BTreeSet (ℕ × ℕ)) → IsTable reads places → (id : ℕ) (r : ReadRequest) → waiting_at reads id ≡ Some r → contains place_cmp places (r.offset, id) ≡ true
-waiting-placed reads places t id r h = t.tied r.offset id ∙ at (read_at reads id) h
+pub waiting-placed : (reads : Entries) (places : BTreeSet (ℕ × ℕ)) (longest : ℕ) → IsKept reads places longest → (id : ℕ) (r : ReadRequest) → waiting_in reads id ≡ Some r → contains place_cmp places (r.offset, id) ≡ true
+waiting-placed reads places longest t id r h = t.tied r.offset id ∙ at (entry_at reads id) h
   where
-    at : (x : Option Read) → if_waiting x ≡ Some r → waits_at r.offset x ≡ true
+    at : (x : Option Read) → if_waits x ≡ Some r → waits_at r.offset x ≡ true
     at None h = cc
-    at (Some x) h = stage (is_waiting x.stage) h
+    at (Some x) h = stage (waits_in x.stage) h
       where
         stage : (b : Bool) → cond b (Some x.request) None ≡ Some r → (b && (x.request.offset == r.offset)) ≡ true
         stage true h =
@@ -228,71 +237,42 @@ waiting-placed reads places t id r h = t.tied r.offset id ∙ at (read_at reads 
         stage false h = cc
 
 -- a waiting read has a number in range
-waiting-small : (reads : Reads) (places : BTreeSet (ℕ × ℕ)) → IsTable reads places → (id : ℕ) (r : ReadRequest) → waiting_at reads id ≡ Some r → id < 2 ^ 64
-waiting-small reads places t id r h = at (read_at reads id) refl h
+waiting-small : (reads : Entries) (places : BTreeSet (ℕ × ℕ)) (longest : ℕ) → IsKept reads places longest → (id : ℕ) (r : ReadRequest) → waiting_in reads id ≡ Some r → id < 2 ^ 64
+waiting-small reads places longest t id r h = at (entry_at reads id) refl h
   where
-    at : (x : Option Read) → read_at reads id ≡ x → if_waiting x ≡ Some r → id < 2 ^ 64
+    at : (x : Option Read) → entry_at reads id ≡ x → if_waits x ≡ Some r → id < 2 ^ 64
     at None e h = cc
     at (Some x) e h = t.small id x e
 
+-- a waiting read is no longer than the longest
+waiting-long : (reads : Entries) (places : BTreeSet (ℕ × ℕ)) (longest : ℕ) → IsKept reads places longest → (id : ℕ) (r : ReadRequest) → waiting_in reads id ≡ Some r → r.length ≤ longest
+waiting-long reads places longest t id r h = at (entry_at reads id) refl h
+  where
+    at : (x : Option Read) → entry_at reads id ≡ x → if_waits x ≡ Some r → r.length ≤ longest
+    at None e h = cc
+    at (Some x) e h = stage (waits_in x.stage) h
+      where
+        stage : (b : Bool) → cond b (Some x.request) None ≡ Some r → r.length ≤ longest
+        stage true k =
+            let same : x.request.length ≡ r.length = ap (λ (o : Option ReadRequest). unwrap_or (option_map (λ s. s.length) o) 0) k in
+            subst (λ n. n ≤ longest) same (t.long id x e)
+        stage false k = cc
+
 -- the numbers of the waiting reads near a range
-pub near-complete : (reads : Reads) (places : BTreeSet (ℕ × ℕ)) (left right : ℕ) (ids : List ℕ) → IsTable reads places
-    → ids ≡ map (λ (k : ℕ × ℕ). k.1) (keys_between place_cmp (Included (left, 0)) (Included (right, 18446744073709551615)) places)
-    → (id : ℕ) (r : ReadRequest) → waiting_at reads id ≡ Some r → left ≤ r.offset → r.offset ≤ right → list_any (λ n. n == id) ids ≡ true
-near-complete reads places left right ids t e id r h l u =
-    let small = waiting-small reads places t id r h in
-    let inside : range_contains place_cmp (Included (left, 0)) (Included (right, 18446744073709551615)) (r.offset, id) ≡ true = grind (arith, nat_tests) in
-    rw e (near-listed (range_contains place_cmp (Included (left, 0)) (Included (right, 18446744073709551615))) r.offset id inside places.keys (waiting-placed reads places t id r h))
+pub near-complete : (reads : Entries) (places : BTreeSet (ℕ × ℕ)) (longest left from right first : ℕ) (ids : List ℕ) → IsKept reads places longest
+    → first ≡ max from (left - longest)
+    → ids ≡ map (λ (k : ℕ × ℕ). k.1) (keys_between place_cmp (Included (first, 0)) (Included (right, 18446744073709551615)) places)
+    → (id : ℕ) (r : ReadRequest) → waiting_in reads id ≡ Some r → left ≤ end_of r → from ≤ r.offset → r.offset ≤ right → list_any (λ n. n == id) ids ≡ true
+near-complete reads places longest left from right first ids t f e id r h l o u =
+    let small = waiting-small reads places longest t id r h in
+    let long = waiting-long reads places longest t id r h in
+    let begins : first ≤ r.offset = omega arith in
+    let inside : range_contains place_cmp (Included (first, 0)) (Included (right, 18446744073709551615)) (r.offset, id) ≡ true = grind (arith, nat_tests) in
+    rw e (near-listed (range_contains place_cmp (Included (first, 0)) (Included (right, 18446744073709551615))) r.offset id inside places.keys (waiting-placed reads places longest t id r h))
 
--- no change but a poll polls a read
-after-polled : (c : Change) (stage : Stage) → is_poll c ≡ false → is_polled stage ≡ false → (t : Stage) → after c stage ≡ Some t → is_polled t ≡ false
-after-polled Poll stage p h t e = cc
-after-polled Cancel Registered p h t e = cc
-after-polled Cancel Polled p h t e = cc
-after-polled Cancel (InFlight a b d) p h t e = subst (λ (o : Option Stage). option_map_or is_polled o false ≡ false) e refl
-after-polled Cancel Resolved p h t e = cc
-after-polled (Take x y) Registered p h t e = subst (λ (o : Option Stage). option_map_or is_polled o false ≡ false) e refl
-after-polled (Take x y) Polled p h t e = cc
-after-polled (Take x y) (InFlight a b d) p h t e = subst (λ (o : Option Stage). option_map_or is_polled o false ≡ false) e refl
-after-polled (Take x y) Resolved p h t e = subst (λ (o : Option Stage). option_map_or is_polled o false ≡ false) e refl
-after-polled Resolve Registered p h t e = subst (λ (o : Option Stage). option_map_or is_polled o false ≡ false) e refl
-after-polled Resolve Polled p h t e = cc
-after-polled Resolve (InFlight a b true) p h t e = cc
-after-polled Resolve (InFlight a b false) p h t e = subst (λ (o : Option Stage). option_map_or is_polled o false ≡ false) e refl
-after-polled Resolve Resolved p h t e = subst (λ (o : Option Stage). option_map_or is_polled o false ≡ false) e refl
-
--- what is polled after a change was polled before
-pub idle-changed : (c : Change) (reads reads' : Reads) (id : ℕ) (x : Read) → is_poll c ≡ false → read_at reads id ≡ Some x
-    → ((q : ℕ) → read_at reads' q ≡ cond (is_at (nat_cmp id) q) (option_map (λ s. record { request = x.request; stage = s }) (after c x.stage)) (read_at reads q))
-    → (q : ℕ) → polled_at reads q ≡ false → polled_at reads' q ≡ false
-idle-changed c reads reads' id x p found lookups q h = at (id == q) refl
-  where
-    put : (t : Option Stage) → after c x.stage ≡ t → is_polled x.stage ≡ false → if_polled (option_map (λ s. record { request = x.request; stage = s }) t) ≡ false
-    put None e k = refl
-    put (Some t) e k = after-polled c x.stage p k t e
-
-    at : (b : Bool) → (id == q) ≡ b → polled_at reads' q ≡ false
-    at true e =
-        let same : id ≡ q = grind (arith, nat_tests) in
-        let here : read_at reads q ≡ Some x = subst (λ n. read_at reads n ≡ Some x) same found in
-        ap if_polled (lookups q ∙ ap (λ b. cond b (option_map (λ s. record { request = x.request; stage = s }) (after c x.stage)) (read_at reads q)) (at-eq id q ∙ e))
-        ∙ put (after c x.stage) refl (sym (ap if_polled here) ∙ h)
-    at false e =
-        ap if_polled (lookups q ∙ ap (λ b. cond b (option_map (λ s. record { request = x.request; stage = s }) (after c x.stage)) (read_at reads q)) (at-eq id q ∙ e)) ∙ h
-
--- a change of one number leaves others
-pub others-changed : (c : Change) (reads reads' : Reads) (id : ℕ) (x : Read)
-    → ((q : ℕ) → read_at reads' q ≡ cond (is_at (nat_cmp id) q) (option_map (λ s. record { request = x.request; stage = s }) (after c x.stage)) (read_at reads q))
-    → (q : ℕ) → (id == q) ≡ false → read_at reads' q ≡ read_at reads q
-others-changed c reads reads' id x lookups q e =
-    lookups q ∙ ap (λ b. cond b (option_map (λ s. record { request = x.request; stage = s }) (after c x.stage)) (read_at reads q)) (at-eq id q ∙ e)
-
--- a new read is not polled
-pub idle-added : (reads reads' : Reads) (r : ReadRequest)
-    → ((q : ℕ) → read_at reads' q ≡ cond (is_at (nat_cmp r.id) q) (Some (record { request = r; stage = Registered })) (read_at reads q))
-    → (q : ℕ) → polled_at reads q ≡ false → polled_at reads' q ≡ false
-idle-added reads reads' r lookups q h = at (is_at (nat_cmp r.id) q) (lookups q)
-  where
-    at : (b : Bool) → read_at reads' q ≡ cond b (Some (record { request = r; stage = Registered })) (read_at reads q) → polled_at reads' q ≡ false
-    at true e = ap if_polled e
-    at false e = ap if_polled e ∙ h
+-- no waiting read lies where there is no room
+pub near-none : (reads : Entries) (places : BTreeSet (ℕ × ℕ)) (longest left from right first : ℕ) (ids : List ℕ) → IsKept reads places longest → first ≡ max from (left - longest) → right < first
+    → (id : ℕ) (r : ReadRequest) → waiting_in reads id ≡ Some r → left ≤ end_of r → from ≤ r.offset → r.offset ≤ right → list_any (λ n. n == id) ids ≡ true
+near-none reads places longest left from right first ids t f past id r h l o u =
+    let long = waiting-long reads places longest t id r h in
+    absurd (omega arith)

@@ -1,5 +1,7 @@
 -- What is asked of a reader in one range.
 use Rattle.std.specs.Prelude.{ℕ, ◌-◌}
+use Rattle.vx_base.specs.declared.answer.ReadAtRequest.{ReadAtRequest}
+use Rattle.vx_sched.specs.Span.{Span}
 use Rattle.vx_sched.specs.declared.io_request.IoRequest.{IoRequest}
 use Rattle.vx_sched.specs.declared.io_request.IoRequest.TheVariants.{Single, Coalesced}
 
@@ -17,3 +19,8 @@ io_len (Coalesced s) = s.end - s.start
 abbrev pub io_alignment : IoRequest → ℕ
 io_alignment (Single r) = r.alignment
 io_alignment (Coalesced s) = s.alignment
+
+-- the range that a span is asked as: where it begins, how many bytes it has, and the alignment that they
+-- are to claim
+abbrev pub request_of : Span → ReadAtRequest
+request_of s = record { offset = s.start; length = s.end - s.start; alignment = s.alignment }

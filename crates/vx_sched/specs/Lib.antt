@@ -1,8 +1,13 @@
+pub mod Calls
+pub mod Chain
 pub mod Counting
+pub mod Entries
+pub mod Flying
 pub mod Insert
 pub mod Io
 pub mod Law
 pub mod Merging
+pub mod Metrics
 pub mod Outcomes
 pub mod Picks
 pub mod Places

@@ -3,7 +3,6 @@ use Rattle.std.specs.Prelude.{◌≡◌, ℕ, ◌+◌, ◌-◌, ◌^◌, ◌<◌
 use Rattle.std.specs.List.{list_any, AllByRecursion}
 use Rattle.vx_base.specs.Aligned.{align_down}
 use Rattle.vx_base.specs.Counts.{last_count}
-use Rattle.vx_sched.specs.declared.window.CoalesceConfig.{CoalesceConfig}
 use Rattle.vx_sched.specs.Span.{Span, end_of}
 use Rattle.vx_sched.specs.declared.request.ReadRequest.{ReadRequest}
 
@@ -50,47 +49,65 @@ abbrev pub HasNoWideGap : ℕ → List ReadRequest → Type 0
 HasNoWideGap distance [] = Unit {0}
 HasNoWideGap distance (r ∷ rest) = GapsAfter distance (end_of r) rest
 
--- a read begins at most `distance` before or after a range
+-- a read ends at most `distance` before a range, and begins at most `distance` after it
 pub record IsNear (distance low high : ℕ) (r : ReadRequest) : Type 0 where
-  pub from : low ≤ r.offset + distance
+  pub from : low ≤ end_of r + distance
   pub upto : r.offset ≤ high + distance
 
--- with this read, the aligned range would be longer than the limit
-abbrev pub IsTooLong : ℕ → ℕ → ℕ → ℕ → ReadRequest → Type 0
-IsTooLong limit alignment low high r = limit < max high (end_of r) - align_down alignment (min low r.offset)
+-- a range is longer than the limit; without a limit none is
+abbrev pub IsLonger : Option ℕ → ℕ → Type 0
+IsLonger None size = ⊥
+IsLonger (Some limit) size = limit < size
 
--- the range of reads that are gathered in a window, or of one read without
-abbrev pub span_of : Option CoalesceConfig → ℕ → List ReadRequest → Span
+-- a range is no longer than the limit, if there is one
+abbrev pub IsWithinLimit : Option ℕ → ℕ → Type 0
+IsWithinLimit None size = Unit {0}
+IsWithinLimit (Some limit) size = size ≤ limit
+
+-- the length of the aligned range from one offset to another
+abbrev pub aligned_size : ℕ → ℕ → ℕ → ℕ
+aligned_size alignment low high = high - align_down alignment low
+
+-- with this read, the aligned range would be longer than the limit
+abbrev pub IsTooLong : Option ℕ → ℕ → ℕ → ℕ → ReadRequest → Type 0
+IsTooLong limit alignment low high r = IsLonger limit (aligned_size alignment (min low r.offset) (max high (end_of r)))
+
+-- the range of reads that are gathered at a distance, or of one read without
+abbrev pub span_of : Option ℕ → ℕ → List ReadRequest → Span
 span_of None alignment [] = record { start = 0; end = 0; alignment = alignment; reads = [] }
 span_of None alignment (r ∷ rest) = record { start = r.offset; end = end_of r; alignment = r.alignment; reads = r ∷ rest }
-span_of (Some c) alignment reads = record {
+span_of (Some distance) alignment reads = record {
   start = align_down alignment (first_offset reads);
   end = greatest_end reads;
   alignment = alignment;
   reads = reads;
 }
 
--- reads that are gathered in a window, from those that wait
-pub record IsGathered (c : CoalesceConfig) (alignment : ℕ) (waiting : ℕ → Option ReadRequest) (reads : List ReadRequest) : Type 0 where
-  pub gaps : HasNoWideGap c.distance reads
-  pub limit : 1 < length reads → greatest_end reads - align_down alignment (first_offset reads) ≤ c.max_size
+-- reads that are gathered at a distance, from those that wait
+pub record IsGathered (distance : ℕ) (limit : Option ℕ) (alignment : ℕ) (waiting : ℕ → Option ReadRequest) (reads : List ReadRequest) : Type 0 where
+  pub gaps : HasNoWideGap distance reads
+  pub size : 1 < length reads → IsWithinLimit limit (aligned_size alignment (first_offset reads) (greatest_end reads))
   pub closure : (r : ReadRequest) → waiting r.id ≡ Some r → is_listed reads r.id ≡ false
-      → IsNear c.distance (first_offset reads) (greatest_end reads) r
-      → IsTooLong c.max_size alignment (first_offset reads) (greatest_end reads) r
+      → IsNear distance (first_offset reads) (greatest_end reads) r
+      → IsTooLong limit alignment (first_offset reads) (greatest_end reads) r
 
--- reads that a window gathers, or one read without a window
-abbrev pub GathersIn : Option CoalesceConfig → ℕ → (ℕ → Option ReadRequest) → List ReadRequest → Type 0
-GathersIn None alignment waiting reads = length reads ≡ 1
-GathersIn (Some c) alignment waiting reads = IsGathered c alignment waiting reads
+-- reads that are gathered at a distance, or one read without; then the limit is not looked at
+abbrev pub GathersIn : Option ℕ → Option ℕ → ℕ → (ℕ → Option ReadRequest) → List ReadRequest → Type 0
+GathersIn None limit alignment waiting reads = length reads ≡ 1
+GathersIn (Some distance) limit alignment waiting reads = IsGathered distance limit alignment waiting reads
 
 -- a span merges from the reads that wait, and serves the one that is next
-pub record Merges (window : Option CoalesceConfig) (alignment : ℕ) (waiting : ℕ → Option ReadRequest) (next : ℕ) (span : Span) : Type 0 where
+pub record Merges (distance limit : Option ℕ) (alignment : ℕ) (waiting : ℕ → Option ReadRequest) (next : ℕ) (span : Span) : Type 0 where
   pub waits : AllByRecursion (λ r. waiting r.id ≡ Some r) span.reads
   pub order : is_in_order span.reads ≡ true
   pub serves : is_listed span.reads next ≡ true
-  pub gathers : GathersIn window alignment waiting span.reads
-  pub range : span ≡ span_of window alignment span.reads
+  pub gathers : GathersIn distance limit alignment waiting span.reads
+  pub range : span ≡ span_of distance alignment span.reads
 
--- the limit with room for the start to be aligned down
-abbrev pub raised : ℕ → CoalesceConfig → CoalesceConfig
-raised alignment c = record c { max_size = min (c.max_size + (2 ^ alignment - 1)) last_count }
+-- the limit of a greatest size, with room for the start to be aligned down
+abbrev pub raised : ℕ → ℕ → ℕ
+raised alignment size = min (size + (2 ^ alignment - 1)) last_count
+
+-- whether two ranges and their alignments are one
+abbrev pub same_span : Span → Span → Bool
+same_span a b = (a.start == b.start) && (a.end == b.end) && (a.alignment == b.alignment)

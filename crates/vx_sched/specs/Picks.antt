@@ -1,12 +1,12 @@
 -- A span while it is gathered.
-use Rattle.std.specs.Prelude.{◌≡◌, ℕ, ◌-◌, ◌<◌, ◌≤◌, true, false, List, length, Option, Some, None, if◌then◌else◌}
+use Rattle.std.specs.Prelude.{◌≡◌, ℕ, ◌<◌, ◌≤◌, true, false, List, length, Option, Some, None, if◌then◌else◌}
 use Rattle.std.specs.List.{AllByRecursion}
 use Rattle.std.specs.BTreeMap.{values}
 use Rattle.std.specs.BTreeSet.{BTreeSet, contains}
 use Rattle.std.specs.Ordering.{nat_cmp}
-use Rattle.vx_base.specs.Aligned.{align_down}
+use Rattle.vx_sched.specs.Span.{end_of}
 use Rattle.vx_sched.specs.Reads.{Reads, waiting_at}
-use Rattle.vx_sched.specs.Merging.{HasNoWideGap, IsNear, IsTooLong, first_offset, greatest_end, is_in_order, is_listed}
+use Rattle.vx_sched.specs.Merging.{HasNoWideGap, IsNear, IsTooLong, IsWithinLimit, aligned_size, first_offset, greatest_end, is_in_order, is_listed}
 use Rattle.vx_sched.specs.declared.request.ReadRequest.{ReadRequest}
 use Rattle.vx_sched.specs.declared.gather.Picks.{Picks}
 use Rattle.vx_sched.specs.declared.gather.Rules.{Rules}
@@ -29,7 +29,7 @@ pub record IsPicked (rules : Rules) (reads : Reads) (before : BTreeSet ℕ) (pic
   pub forward : picks.low ≤ picks.high
   pub some : 1 ≤ length (values picks.reads)
   pub gaps : HasNoWideGap rules.distance (values picks.reads)
-  pub limit : 1 < length (values picks.reads) → picks.high - align_down rules.alignment picks.low ≤ rules.limit
+  pub limit : 1 < length (values picks.reads) → IsWithinLimit rules.limit (aligned_size rules.alignment picks.low picks.high)
 
 -- more reads were picked, or none
 pub record PickedMore (old new : Picks) : Type 0 where
@@ -37,14 +37,15 @@ pub record PickedMore (old new : Picks) : Type 0 where
   pub low : new.low ≤ old.low
   pub high : old.high ≤ new.high
 
--- a read of this number in these bounds was picked, or would make the span too long
-abbrev pub IsLookedAt : Rules → Reads → BTreeSet ℕ → ℕ → ℕ → Picks → ℕ → Type 0
-IsLookedAt rules reads before left right picks id = (r : ReadRequest) → free_at reads before id ≡ Some r → left ≤ r.offset → r.offset ≤ right
-    → is_listed (values picks.reads) id ≡ false → IsTooLong rules.limit rules.alignment picks.low picks.high r
+-- a read of this number that ends at `left` or after, and begins at `from` or after and at `right` or
+-- before, was picked, or would make the span too long
+abbrev pub IsLookedAt : Rules → Reads → BTreeSet ℕ → ℕ → ℕ → ℕ → Picks → ℕ → Type 0
+IsLookedAt rules reads before left from right picks id = (r : ReadRequest) → free_at reads before id ≡ Some r
+    → left ≤ end_of r → from ≤ r.offset → r.offset ≤ right → is_listed (values picks.reads) id ≡ false → IsTooLong rules.limit rules.alignment picks.low picks.high r
 
--- each read in these bounds was
-abbrev pub AreLookedAt : Rules → Reads → BTreeSet ℕ → ℕ → ℕ → Picks → Type 0
-AreLookedAt rules reads before left right picks = (id : ℕ) → IsLookedAt rules reads before left right picks id
+-- each such read was
+abbrev pub AreLookedAt : Rules → Reads → BTreeSet ℕ → ℕ → ℕ → ℕ → Picks → Type 0
+AreLookedAt rules reads before left from right picks = (id : ℕ) → IsLookedAt rules reads before left from right picks id
 
 -- each free read that is near the picks was picked, or would make the span too long
 abbrev pub IsClosed : Rules → Reads → BTreeSet ℕ → Picks → Type 0

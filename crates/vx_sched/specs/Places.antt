@@ -1,10 +1,15 @@
 -- The places of waiting reads: their offsets and numbers.
-use Rattle.std.specs.Prelude.{◌≡◌, ℕ, ◌<◌, ◌^◌, ◌==◌, ◌&&◌, Bool, false, Option, Some, None}
+use Rattle.std.specs.Prelude.{◌≡◌, ℕ, ◌<◌, ◌≤◌, ◌^◌, ◌==◌, ◌&&◌, Bool, true, false, length, Option, Some, None, if◌then◌else◌}
 use Rattle.std.specs.BTreeSet.{BTreeSet, contains}
 use Rattle.std.specs.Ordering.{nat_cmp, ordering_then}
 use Rattle.std.specs.declared.cmp.Ordering.{Ordering}
 use Rattle.vx_sched.specs.Span.{end_of}
-use Rattle.vx_sched.specs.Reads.{Reads, read_at, waiting_at, is_waiting}
+use Rattle.std.specs.List.Sorted.{IsStrictlySortedBy}
+use Rattle.std.specs.Map.{keys_of}
+use Rattle.vx_sched.specs.Reads.{Reads, waiting_at, has_first}
+use Rattle.vx_sched.specs.Merging.{first_number}
+use Rattle.vx_sched.specs.Entries.{Entries, entry_at, waits_in, group}
+use Rattle.vx_sched.specs.declared.read.Stage.TheVariants.{Registered, Polled, InFlight, Resolved}
 use Rattle.vx_sched.specs.declared.request.ReadRequest.{ReadRequest}
 use Rattle.vx_sched.specs.declared.read.Read.{Read}
 use Rattle.vx_sched.specs.declared.read.Stage.{Stage}
@@ -16,19 +21,42 @@ place_cmp a b = ordering_then (nat_cmp a.0 b.0) (nat_cmp a.1 b.1)
 -- whether a read waits at an offset
 abbrev pub waits_at : ℕ → Option Read → Bool
 waits_at offset None = false
-waits_at offset (Some x) = is_waiting x.stage && (x.request.offset == offset)
+waits_at offset (Some x) = waits_in x.stage && (x.request.offset == offset)
 
 -- whether a read waits in a stage, if it has one
 abbrev pub stays_waiting : Option Stage → Bool
 stays_waiting None = false
-stays_waiting (Some stage) = is_waiting stage
+stays_waiting (Some stage) = waits_in stage
 
--- reads and the places of those that wait
-pub record IsTable (reads : Reads) (places : BTreeSet (ℕ × ℕ)) : Type 0 where
-  pub tied : (offset id : ℕ) → contains place_cmp places (offset, id) ≡ waits_at offset (read_at reads id)
-  pub keyed : (id : ℕ) (x : Read) → read_at reads id ≡ Some x → x.request.id ≡ id
-  pub small : (id : ℕ) (x : Read) → read_at reads id ≡ Some x → id < 2 ^ 64
-  pub fits : (id : ℕ) (x : Read) → read_at reads id ≡ Some x → end_of x.request < 2 ^ 64
+-- entries, the places of those whose reads wait, and a length that none passes. Each number stands once
+pub record IsKept (entries : Entries) (places : BTreeSet (ℕ × ℕ)) (longest : ℕ) : Type 0 where
+  pub tied : (offset id : ℕ) → contains place_cmp places (offset, id) ≡ waits_at offset (entry_at entries id)
+  pub sorted : IsStrictlySortedBy nat_cmp (keys_of entries)
+  pub keyed : (id : ℕ) (x : Read) → entry_at entries id ≡ Some x → x.request.id ≡ id
+  pub small : (id : ℕ) (x : Read) → entry_at entries id ≡ Some x → id < 2 ^ 64
+  pub long : (id : ℕ) (x : Read) → entry_at entries id ≡ Some x → x.request.length ≤ longest
+  pub fits : (id : ℕ) (x : Read) → entry_at entries id ≡ Some x → end_of x.request < 2 ^ 64
+
+abbrev pub size_of : ℕ → Stage → Option ℕ
+size_of n Registered = None
+size_of n Polled = None
+size_of n (InFlight span size dropped) = if span == n then Some size else None
+size_of n Resolved = None
+
+-- how many reads the span of a number has, as one of them in flight knows
+abbrev pub size_in : ℕ → Option Read → Option ℕ
+size_in n None = None
+size_in n (Some x) = size_of n x.stage
+
+-- the reads in flight in a span are named by the first of them, and know how many they are
+pub record AreGrouped (entries : Entries) : Type 0 where
+  pub named : (n : ℕ) → has_first (group n entries) ≡ true → first_number (group n entries) ≡ n
+  pub sizes : (id n size : ℕ) → size_in n (entry_at entries id) ≡ Some size → length (group n entries) ≡ size
+
+-- both
+pub record IsTable (entries : Entries) (places : BTreeSet (ℕ × ℕ)) (longest : ℕ) : Type 0 where
+  pub kept : IsKept entries places longest
+  pub grouped : AreGrouped entries
 
 -- each waiting read ends in range
 abbrev pub AllFit : Reads → Type 0

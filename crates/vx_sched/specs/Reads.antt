@@ -1,93 +1,142 @@
--- The reads that a scheduler keeps, by number, and what happens to each.
-use Rattle.std.specs.Prelude.{ℕ, Bool, true, false, List, [], ◌∷◌, Option, Some, None, find, if◌then◌else◌}
-use Rattle.std.specs.Option.{option_map}
-use Rattle.std.specs.Map.{lookup, remove_entry}
-use Rattle.std.specs.BTreeMap.{insert_entry, is_at}
-use Rattle.std.specs.Ordering.{nat_cmp}
+-- The reads that a scheduler keeps, in order of their numbers.
+use Rattle.std.specs.Prelude.{ℕ, ◌+◌, ◌≤◌, ◌==◌, Bool, true, false, List, [], ◌∷◌, length, Option, Some, None, if◌then◌else◌}
+use Rattle.vx_sched.specs.Merging.{first_number}
 use Rattle.vx_sched.specs.declared.request.ReadRequest.{ReadRequest}
-use Rattle.vx_sched.specs.declared.read.Read.{Read}
-use Rattle.vx_sched.specs.declared.read.Stage.{Stage}
-use Rattle.vx_sched.specs.declared.read.Stage.TheVariants.{Registered, Polled, InFlight, Resolved}
-use Rattle.vx_sched.specs.declared.read.Change.{Change}
-use Rattle.vx_sched.specs.declared.read.Change.TheVariants.{Poll, Cancel, Take, Resolve}
+use Rattle.vx_sched.specs.declared.read.ReadState.{ReadState}
+use Rattle.vx_sched.specs.declared.read.ReadState.TheVariants.{Registered, Polled, InFlight, Resolved}
 
--- reads by number, in order
+-- a read: what it asks for, where it stands, whether it was dropped in flight, and, where a span in
+-- flight begins with it, the reads of that span
+pub record Known : Type 0 where
+  pub request : ReadRequest
+  pub state : ReadState
+  pub dropped : Bool
+  pub leads : List ReadRequest
+
+-- reads in order of their numbers
 abbrev pub Reads : Type 0
-Reads = List (ℕ × Read)
+Reads = List Known
 
 -- the read of a number
-abbrev pub read_at : Reads → ℕ → Option Read
-read_at reads id = lookup (is_at (nat_cmp id)) reads
+abbrev pub read_at : Reads → ℕ → Option Known
+read_at [] id = None
+read_at (x ∷ rest) id = if x.request.id == id then Some x else read_at rest id
 
--- whether a read of this stage waits to be gathered
-abbrev pub is_waiting : Stage → Bool
+-- whether a read waits to be gathered
+abbrev pub is_waiting : ReadState → Bool
 is_waiting Registered = true
 is_waiting Polled = true
-is_waiting (InFlight _ _ _) = false
+is_waiting InFlight = false
 is_waiting Resolved = false
 
--- whether a read of this stage was polled and waits
-abbrev pub is_polled : Stage → Bool
+-- whether a read was polled and waits
+abbrev pub is_polled : ReadState → Bool
 is_polled Registered = false
 is_polled Polled = true
-is_polled (InFlight _ _ _) = false
+is_polled InFlight = false
 is_polled Resolved = false
 
--- a read, where it waits
-abbrev pub if_waiting : Option Read → Option ReadRequest
+-- whether a read is in flight
+abbrev pub is_flying : ReadState → Bool
+is_flying Registered = false
+is_flying Polled = false
+is_flying InFlight = true
+is_flying Resolved = false
+
+abbrev pub if_waiting : Option Known → Option ReadRequest
 if_waiting None = None
-if_waiting (Some x) = if is_waiting x.stage then Some x.request else None
+if_waiting (Some x) = if is_waiting x.state then Some x.request else None
 
 -- the waiting read of a number
 abbrev pub waiting_at : Reads → ℕ → Option ReadRequest
 waiting_at reads id = if_waiting (read_at reads id)
 
--- the polled read of least number
-abbrev pub next_polled : Reads → Option ReadRequest
-next_polled reads = option_map (λ e. e.1.request) (find (λ e. is_polled e.1.stage) reads)
+abbrev pub if_polled : Option Known → Bool
+if_polled None = false
+if_polled (Some x) = is_polled x.state
 
--- whether a change polls a read
-abbrev pub is_poll : Change → Bool
-is_poll Poll = true
-is_poll Cancel = false
-is_poll (Take _ _) = false
-is_poll Resolve = false
+-- whether the read of a number was polled and waits
+abbrev pub polled_at : Reads → ℕ → Bool
+polled_at reads id = if_polled (read_at reads id)
 
--- the stage of a read after a change, or that it is gone
-abbrev pub after : Change → Stage → Option Stage
-after Poll Registered = Some Polled
-after Poll Polled = Some Polled
-after Poll (InFlight span size dropped) = Some (InFlight span size dropped)
-after Poll Resolved = Some Resolved
-after Cancel Registered = None
-after Cancel Polled = None
-after Cancel (InFlight span size dropped) = Some (InFlight span size true)
-after Cancel Resolved = None
-after (Take span size) Registered = Some (InFlight span size false)
-after (Take span size) Polled = Some (InFlight span size false)
-after (Take span size) (InFlight other count dropped) = Some (InFlight other count dropped)
-after (Take span size) Resolved = Some Resolved
-after Resolve Registered = Some Registered
-after Resolve Polled = Some Polled
-after Resolve (InFlight span size true) = None
-after Resolve (InFlight span size false) = Some Resolved
-after Resolve Resolved = Some Resolved
+abbrev pub if_state : Option Known → Option ReadState
+if_state None = None
+if_state (Some x) = Some x.state
 
--- the reads with the read of a number in this stage, or without it
-abbrev pub with_stage : Reads → ℕ → ReadRequest → Option Stage → Reads
-with_stage reads id r (Some stage) = insert_entry nat_cmp reads id (record { request = r; stage = stage })
-with_stage reads id r None = remove_entry (is_at (nat_cmp id)) reads
+-- where the read of a number stands
+abbrev pub state_at : Reads → ℕ → Option ReadState
+state_at reads id = if_state (read_at reads id)
 
--- the reads after a change of one that was looked up
-abbrev pub change_found : Change → Reads → ℕ → Option Read → Reads
-change_found change reads id None = reads
-change_found change reads id (Some x) = with_stage reads id x.request (after change x.stage)
+abbrev pub if_flying : Option Known → Bool
+if_flying None = false
+if_flying (Some x) = is_flying x.state
 
--- the reads after a change of the read of a number
-abbrev pub changed : Change → Reads → ℕ → Reads
-changed change reads id = change_found change reads id (read_at reads id)
+-- whether the read of a number is in flight
+abbrev pub flying_at : Reads → ℕ → Bool
+flying_at reads id = if_flying (read_at reads id)
 
--- the reads after a change of several
-abbrev pub all_changed : Change → Reads → List ReadRequest → Reads
-all_changed change reads [] = reads
-all_changed change reads (r ∷ rest) = all_changed change (changed change reads r.id) rest
+abbrev pub if_leads : Option Known → List ReadRequest
+if_leads None = []
+if_leads (Some x) = x.leads
+
+-- the reads of the span in flight that begins with the read of a number
+abbrev pub leads_at : Reads → ℕ → List ReadRequest
+leads_at reads id = if_leads (read_at reads id)
+
+-- whether a list has an element
+abbrev pub has_first : {X : Type 0} → List X → Bool
+has_first [] = false
+has_first (_ ∷ _) = true
+
+-- the reads of each span in flight, by the number of the first
+abbrev pub flights : Reads → List (List ReadRequest)
+flights [] = []
+flights (x ∷ rest) = if has_first x.leads then x.leads ∷ flights rest else flights rest
+
+-- how many ranges are in flight
+abbrev pub ranges_in_flight : Reads → ℕ
+ranges_in_flight reads = length (flights reads)
+
+-- the numbers rise, from one at or above this
+abbrev pub Rise : ℕ → Reads → Type 0
+Rise from [] = Unit {0}
+Rise from (x ∷ rest) = (from ≤ x.request.id) × Rise (x.request.id + 1) rest
+
+abbrev pub keep : Option Known → Reads → Reads
+keep None rest = rest
+keep (Some x) rest = x ∷ rest
+
+-- the reads where each one of some numbers is changed, or gone
+abbrev pub change : (ℕ → Bool) → (Known → Option Known) → Reads → Reads
+change among made [] = []
+change among made (x ∷ rest) = keep (if among x.request.id then made x else Some x) (change among made rest)
+
+-- a new read
+abbrev pub register_read : ReadRequest → Known
+register_read r = record { request = r; state = Registered; dropped = false; leads = [] }
+
+abbrev pub after_poll : ReadState → ReadState
+after_poll Registered = Polled
+after_poll Polled = Polled
+after_poll InFlight = InFlight
+after_poll Resolved = Resolved
+
+-- a registered read becomes polled, any other stays
+abbrev pub poll_read : Known → Option Known
+poll_read x = Some (record x { state = after_poll x.state })
+
+-- a read in flight is marked, any other is gone
+abbrev pub drop_read : Known → Option Known
+drop_read x = if is_flying x.state then Some (record x { dropped = true }) else None
+
+-- a waiting read of a span is in flight; the first one leads the span
+abbrev pub take_read : List ReadRequest → Known → Option Known
+take_read reads x = if is_waiting x.state
+    then Some (record x { state = InFlight; leads = if x.request.id == first_number reads then reads else [] })
+    else Some x
+
+-- a read in flight is resolved, or gone where it was marked
+abbrev pub resolve_read : Known → Option Known
+resolve_read x = if is_flying x.state
+    then (if x.dropped then None else Some (record x { state = Resolved; leads = [] }))
+    else Some x

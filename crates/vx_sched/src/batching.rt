@@ -11,8 +11,6 @@ use crate::table::Table;
 use crate::{CoalescedRequest, ReadRequest};
 use std::alloc::{AllocError, Global};
 use std::collections::BTreeSet;
-use crate::CoalesceConfig;
-use vx_base::Alignment;
 
 /// The span of one read alone.
 pub fn lone(alloc: Global, first: ReadRequest) -> Result<CoalescedRequest, AllocError>
@@ -32,25 +30,21 @@ pub fn lone(alloc: Global, first: ReadRequest) -> Result<CoalescedRequest, Alloc
     Ok(CoalescedRequest::within(start, end, alignment, reads))
 }
 
-/// The span that a window gathers from a read on.
+/// The span that rules gather from a read on.
 pub fn gathered(
     alloc: Global,
     table: &Table,
     before: &BTreeSet<u64>,
-    window: CoalesceConfig,
-    alignment: Alignment,
+    rules: &Rules,
     first: ReadRequest,
 ) -> Result<CoalescedRequest, AllocError>
     requires free { free_at table.now before.now first.id ≡ Some first }
     requires fits { end_of first < 2 ^ 64 }
-    ensures { IfOk result (λ span. Merges (Some window) alignment (free_at table.now before.now) first.id span) }
+    ensures { IfOk result (λ span. Merges (Some rules.now.distance) rules.now.limit rules.now.alignment
+        (free_at table.now before.now) first.id span) }
 {
-    let rules = Rules {
-        distance: window.distance,
-        limit: window.max_size,
-        alignment,
-    };
-    let picks = gather(alloc, table, before, &rules, first)?;
+    let picks = gather(alloc, table, before, rules, first)?;
+    let alignment = rules.alignment;
     let start = alignment.down(picks.low);
     let end = picks.high;
     let reads = picks.into_reads(alloc)?;

@@ -1,5 +1,5 @@
 //! How many reads a scheduler has in each state.
-ghost use Rattle.std.specs.Prelude.{◌≡◌, ℕ, count_by};
+ghost use Rattle.std.specs.Prelude.{◌≡◌};
 ghost use Rattle.vx_sched.specs.Counting.{is_of, count_of};
 
 use crate::read::{Read, Stage};

@@ -2,14 +2,14 @@
 ghost use Rattle.std.specs.Prelude.{◌≡◌, ℕ, ◌<◌, ◌≤◌, ◌^◌};
 ghost use Rattle.std.specs.List.{list_all};
 ghost use Rattle.vx_sched.specs.Span.{AllWithin};
-ghost use Rattle.vx_sched.specs.Reads.{read_at};
+ghost use Rattle.vx_sched.specs.Entries.{entry_at};
 ghost use Rattle.vx_sched.specs.Merging.{is_in_order, greatest_end};
-ghost use Rattle.vx_sched.specs.Scheduling.{same_read, flies_in, is_flying};
+ghost use Rattle.vx_sched.specs.Flying.{same_read, flies_in, flies_so};
 
 use crate::ReadRequest;
 use crate::gather::comes_before;
 use crate::read::{Read, Stage};
-use crate::table::Table;
+use std::collections::BTreeMap;
 use std::ops::Range;
 
 /// Whether reads are listed once each, in order.
@@ -68,7 +68,7 @@ fn is_in_span(stage: &Stage, span: u64, size: usize) -> bool
 
 /// Whether a read that was looked up is in flight in a span.
 fn flies(span: u64, size: usize, request: &ReadRequest, found: Option<Read>) -> bool
-    ensures { result ≡ is_flying span size request.now found }
+    ensures { result ≡ flies_so span size request.now found }
 {
     match found {
         None => false,
@@ -77,11 +77,11 @@ fn flies(span: u64, size: usize, request: &ReadRequest, found: Option<Read>) -> 
 }
 
 /// Whether reads are in flight in a span.
-pub fn all_fly(table: &Table, span: u64, size: usize, reads: &[ReadRequest]) -> bool
-    ensures { result ≡ list_all (λ r. is_flying span size r (read_at table.now r.id)) reads.now }
+pub fn all_fly(reads: &BTreeMap<u64, Read>, span: u64, size: usize, spans: &[ReadRequest]) -> bool
+    ensures { result ≡ list_all (λ r. flies_so span size r (entry_at reads.now.entries r.id)) spans.now }
 {
-    for read in reads {
-        if !flies(span, size, read, table.read(read.id)) {
+    for read in spans {
+        if !flies(span, size, read, reads.get(&read.id).copied()) {
             return false;
         }
     }

@@ -1,14 +1,13 @@
 //! Gathering the reads of a span, in passes.
 //!
-//! A pass fixes its bounds as it begins, and looks at the waiting reads in them in order of offset and
-//! number: it picks each that does not make the range too long. Passes go on until the bounds stay. A
-//! read that was looked at is picked, or was too long and stays so as the range grows, so each pass
-//! looks only at what earlier ones did not, and a span looks at each read near it once.
+//! A pass fixes its bounds as it begins, and looks at the waiting reads that end at or after the first
+//! and begin at or before the second, in order of offset and number: it picks each that does not make
+//! the range too long. Passes go on until the bounds stay. A read that was looked at is picked, or was
+//! too long and stays so as the range grows, so a pass looks only at what earlier ones did not.
 ghost use Rattle.std.specs.Prelude.{◌≡◌, ◌+◌, ◌-◌, ◌<◌, ◌≤◌, ◌^◌, ◌∷◌, [], true, false, Some, max, min, IfOk, IfSome, OnOk};
 ghost use Rattle.std.specs.BTreeMap.{insert_entry, values};
-ghost use Rattle.vx_base.specs.Aligned.{align_down};
 ghost use Rattle.vx_sched.specs.Span.{end_of};
-ghost use Rattle.vx_sched.specs.Merging.{is_before, is_listed, IsTooLong};
+ghost use Rattle.vx_sched.specs.Merging.{is_before, is_listed, aligned_size, IsTooLong, IsWithinLimit};
 ghost use Rattle.vx_sched.specs.Places.{place_cmp, AllFit};
 ghost use Rattle.vx_sched.specs.Picks.{IsPicked, PickedMore, IsLookedAt, AreLookedAt, IsClosed, free_at};
 
@@ -22,7 +21,7 @@ use vx_base::Alignment;
 #[derive(Clone, Copy)]
 pub struct Rules {
     pub distance: u64,
-    pub limit: u64,
+    pub limit: Option<u64>,
     pub alignment: Alignment,
 }
 
@@ -34,7 +33,7 @@ pub struct Picks {
     pub high: u64,
 }
 
-/// Offsets from one to another, both among them.
+/// The reads that end at `left` or after and begin at `right` or before.
 #[derive(Clone, Copy)]
 struct Bounds {
     left: u64,
@@ -52,11 +51,15 @@ pub fn comes_before(a: &ReadRequest, b: &ReadRequest) -> bool
 fn is_too_long(rules: &Rules, low: u64, high: u64, read: &ReadRequest) -> bool
     requires { end_of read.now < 2 ^ 64 }
     ensures long { result ≡ true → IsTooLong rules.now.limit rules.now.alignment low high read.now }
-    ensures short { result ≡ false → max high (end_of read.now) - align_down rules.now.alignment (min low read.now.offset) ≤ rules.now.limit }
+    ensures short { result ≡ false → IsWithinLimit rules.now.limit
+        (aligned_size rules.now.alignment (min low read.now.offset) (max high (end_of read.now))) }
 {
+    let Some(limit) = rules.limit else {
+        return false;
+    };
     let end = high.max(read.offset + read.length as u64);
     let start = rules.alignment.down(low.min(read.offset));
-    end.saturating_sub(start) > rules.limit
+    end.saturating_sub(start) > limit
 }
 
 impl Picks {
@@ -74,7 +77,7 @@ impl Picks {
         Ok(Picks { reads, low, high })
     }
 
-    /// The offsets within the distance of the picks.
+    /// The bounds at the distance of the picks.
     fn near(&self, rules: &Rules) -> Bounds
         ensures left { result.left ≡ self.now.low - rules.now.distance }
         ensures right { result.right ≡ min (self.now.high + rules.now.distance) (2 ^ 64 - 1) }
@@ -126,12 +129,13 @@ impl Picks {
         requires right { bounds.right ≤ self.old.high + rules.now.distance }
         ensures picked { OnOk result (IsPicked rules.now table.now before.now self.new) }
         ensures more { OnOk result (PickedMore self.old self.new) }
-        ensures looked { OnOk result (IsLookedAt rules.now table.now before.now bounds.left bounds.right self.new id) }
+        ensures looked { OnOk result (IsLookedAt rules.now table.now before.now bounds.left 0 bounds.right self.new id) }
     {
         let Some(read) = free_read(table, before, id) else {
             return Ok(());
         };
-        if read.offset < bounds.left || read.offset > bounds.right {
+        let end = read.offset + read.length as u64;
+        if end < bounds.left || read.offset > bounds.right {
             return Ok(());
         }
         if self.reads.contains_key(&(read.offset, read.id)) {
@@ -157,32 +161,32 @@ fn free_read(table: &Table, before: &BTreeSet<u64>, id: u64) -> Option<ReadReque
     }
 }
 
-/// Looks at the waiting reads whose offsets lie in bounds, in order.
+/// Looks at the waiting reads in bounds that begin at an offset or after, in order.
 fn look_between(
     alloc: Global,
     table: &Table,
     before: &BTreeSet<u64>,
     rules: &Rules,
     bounds: Bounds,
+    from: u64,
     picks: &mut Picks,
 ) -> Result<(), AllocError>
     requires picked { IsPicked rules.now table.now before.now picks.old }
-    requires forward { bounds.left ≤ bounds.right }
     requires left { picks.old.low ≤ bounds.left + rules.now.distance }
     requires right { bounds.right ≤ picks.old.high + rules.now.distance }
     ensures picked { OnOk result (IsPicked rules.now table.now before.now picks.new) }
     ensures more { OnOk result (PickedMore picks.old picks.new) }
-    ensures looked { OnOk result (AreLookedAt rules.now table.now before.now bounds.left bounds.right picks.new) }
+    ensures looked { OnOk result (AreLookedAt rules.now table.now before.now bounds.left from bounds.right picks.new) }
     ensures fit { AllFit table.now }
 {
-    let ids = table.places_near(alloc, bounds.left, bounds.right)?;
+    let ids = table.places_near(alloc, bounds.left, from, bounds.right)?;
     for id in &ids {
         picks.look(table, before, rules, bounds, *id)?;
     }
     Ok(())
 }
 
-/// Looks at the waiting reads from an offset up to bounds whose reads were looked at, in order.
+/// Looks at the waiting reads that end at an offset or after, before bounds whose reads were looked at.
 fn look_before(
     alloc: Global,
     table: &Table,
@@ -193,12 +197,12 @@ fn look_before(
     picks: &mut Picks,
 ) -> Result<(), AllocError>
     requires picked { IsPicked rules.now table.now before.now picks.old }
-    requires seen { AreLookedAt rules.now table.now before.now seen.left seen.right picks.old }
+    requires seen { AreLookedAt rules.now table.now before.now seen.left 0 seen.right picks.old }
     requires left { picks.old.low ≤ left + rules.now.distance }
     requires right { seen.left ≤ picks.old.high + rules.now.distance }
     ensures picked { OnOk result (IsPicked rules.now table.now before.now picks.new) }
     ensures more { OnOk result (PickedMore picks.old picks.new) }
-    ensures looked { OnOk result (AreLookedAt rules.now table.now before.now left seen.right picks.new) }
+    ensures looked { OnOk result (AreLookedAt rules.now table.now before.now left 0 seen.right picks.new) }
 {
     if left >= seen.left {
         return Ok(());
@@ -207,11 +211,11 @@ fn look_before(
         left,
         right: seen.left - 1,
     };
-    look_between(alloc, table, before, rules, bounds, picks)?;
+    look_between(alloc, table, before, rules, bounds, 0, picks)?;
     Ok(())
 }
 
-/// Looks at the waiting reads from bounds whose reads were looked at up to an offset, in order.
+/// Looks at the waiting reads after bounds whose reads were looked at, up to an offset.
 fn look_after(
     alloc: Global,
     table: &Table,
@@ -222,21 +226,21 @@ fn look_after(
     picks: &mut Picks,
 ) -> Result<(), AllocError>
     requires picked { IsPicked rules.now table.now before.now picks.old }
-    requires seen { AreLookedAt rules.now table.now before.now seen.left seen.right picks.old }
-    requires left { picks.old.low ≤ seen.right + rules.now.distance }
+    requires seen { AreLookedAt rules.now table.now before.now seen.left 0 seen.right picks.old }
+    requires left { picks.old.low ≤ seen.left + rules.now.distance }
     requires right { right ≤ picks.old.high + rules.now.distance }
     ensures picked { OnOk result (IsPicked rules.now table.now before.now picks.new) }
     ensures more { OnOk result (PickedMore picks.old picks.new) }
-    ensures looked { OnOk result (AreLookedAt rules.now table.now before.now seen.left right picks.new) }
+    ensures looked { OnOk result (AreLookedAt rules.now table.now before.now seen.left 0 right picks.new) }
 {
     if right <= seen.right {
         return Ok(());
     }
     let bounds = Bounds {
-        left: seen.right + 1,
+        left: seen.left,
         right,
     };
-    look_between(alloc, table, before, rules, bounds, picks)?;
+    look_between(alloc, table, before, rules, bounds, seen.right + 1, picks)?;
     Ok(())
 }
 
@@ -251,14 +255,14 @@ fn pass(
     picks: &mut Picks,
 ) -> Result<(), AllocError>
     requires picked { IsPicked rules.now table.now before.now picks.old }
-    requires seen { AreLookedAt rules.now table.now before.now seen.left seen.right picks.old }
+    requires seen { AreLookedAt rules.now table.now before.now seen.left 0 seen.right picks.old }
     requires left { picks.old.low ≤ bounds.left + rules.now.distance }
     requires right { bounds.right ≤ picks.old.high + rules.now.distance }
     requires forward { seen.left ≤ seen.right }
     requires wider { (bounds.left ≤ seen.left) × (seen.right ≤ bounds.right) }
     ensures picked { OnOk result (IsPicked rules.now table.now before.now picks.new) }
     ensures more { OnOk result (PickedMore picks.old picks.new) }
-    ensures looked { OnOk result (AreLookedAt rules.now table.now before.now bounds.left bounds.right picks.new) }
+    ensures looked { OnOk result (AreLookedAt rules.now table.now before.now bounds.left 0 bounds.right picks.new) }
 {
     look_before(alloc, table, before, rules, bounds.left, seen, picks)?;
     let seen = Bounds {
@@ -285,7 +289,7 @@ pub fn gather(
 {
     let mut picks = Picks::first(alloc, first)?;
     let mut seen = picks.near(rules);
-    look_between(alloc, table, before, rules, seen, &mut picks)?;
+    look_between(alloc, table, before, rules, seen, 0, &mut picks)?;
     loop {
         let bounds = picks.near(rules);
         if bounds.left >= seen.left && bounds.right <= seen.right {

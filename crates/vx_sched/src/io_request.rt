@@ -1,9 +1,11 @@
 //! What is asked of a reader in one range.
-ghost use Rattle.std.specs.Prelude.{◌≡◌, ◌==◌};
-ghost use Rattle.vx_sched.specs.Io.{io_offset, io_len, io_alignment};
+ghost use Rattle.std.specs.Prelude.{◌≡◌, ℕ, ◌==◌, ◌∷◌, [], None};
+ghost use Rattle.vx_sched.specs.Io.{io_offset, io_len, io_alignment, request_of};
+ghost use Rattle.vx_sched.specs.Merging.{span_of};
+ghost use Rattle.vx_sched.specs.declared.request.ReadRequest.{ReadRequest};
 
 use crate::{CoalescedRequest, ReadRequest};
-use vx_base::Alignment;
+use vx_base::{Alignment, ReadAtRequest};
 
 /// A range for one read alone, or for the reads of a span.
 #[derive(Drop)]
@@ -51,5 +53,20 @@ impl IoRequest {
             IoRequest::Single(read) => read.alignment,
             IoRequest::Coalesced(span) => span.alignment(),
         }
+    }
+}
+
+/// The range that a span is asked as. A single read without a distance is asked with its own offset,
+/// length and alignment.
+pub fn request_of(span: &CoalescedRequest) -> ReadAtRequest
+    ensures value { result ≡ request_of span.now }
+    ensures single { (alignment : ℕ) (r : ReadRequest) → span.now ≡ span_of None alignment (r ∷ []) →
+        result ≡ record { offset = r.offset; length = r.length; alignment = r.alignment } }
+{
+    let range = span.range();
+    ReadAtRequest {
+        offset: range.start,
+        length: (range.end - range.start) as usize,
+        alignment: span.alignment(),
     }
 }

@@ -11,22 +11,25 @@ mod flying;
 mod gather;
 mod io_request;
 mod law;
+#[cfg(test)]
+mod merging_tests;
 mod metrics;
 mod read;
 mod request;
 mod span;
 mod state;
 mod table;
-mod window;
+#[cfg(test)]
+mod tests;
 
 pub use asking::{ask, ask_size};
 pub use counts::Counts;
 pub use event::{Batch, Event, ReadEvent};
 pub use fault::{Fault, Outcome, Place};
-pub use io_request::IoRequest;
-pub use law::scheduling_law;
+pub use io_request::{IoRequest, request_of};
+pub use law::{law_of_calls, scheduling_law};
 pub use metrics::RequestMetrics;
+pub use read::ReadState;
 pub use request::ReadRequest;
 pub use span::{CoalescedRequest, RangeError};
 pub use state::State;
-pub use window::CoalesceConfig;

@@ -1,10 +1,19 @@
 //! A read that a scheduler keeps, and what happens to it.
 ghost use Rattle.std.specs.Prelude.{◌≡◌};
-ghost use Rattle.vx_sched.specs.Reads.{after, is_waiting, is_polled};
+ghost use Rattle.vx_sched.specs.Entries.{after, waits_in, polled_in, state_of};
 
 use crate::ReadRequest;
 
-/// Where a read stands. A read in flight names its span by the number of the span's first read, and
+/// Where a read stands.
+#[derive(Clone, Copy, Debug, PartialEq, Eq)]
+pub enum ReadState {
+    Registered,
+    Polled,
+    InFlight,
+    Resolved,
+}
+
+/// What is kept of where a read stands. A read in flight names its span by the number of the span's first read, and
 /// knows how many reads that has, and whether it was dropped meanwhile.
 #[derive(Clone, Copy, Debug, PartialEq, Eq)]
 pub enum Stage {
@@ -70,8 +79,19 @@ pub fn stage_after(change: Change, stage: Stage) -> Option<Stage>
 }
 
 impl Stage {
+    pub fn state(&self) -> ReadState
+        ensures { result ≡ state_of self.now }
+    {
+        match self {
+            Stage::Registered => ReadState::Registered,
+            Stage::Polled => ReadState::Polled,
+            Stage::InFlight { .. } => ReadState::InFlight,
+            Stage::Resolved => ReadState::Resolved,
+        }
+    }
+
     pub fn is_waiting(&self) -> bool
-        ensures { result ≡ is_waiting self.now }
+        ensures { result ≡ waits_in self.now }
     {
         match self {
             Stage::Registered | Stage::Polled => true,
@@ -80,7 +100,7 @@ impl Stage {
     }
 
     pub fn is_polled(&self) -> bool
-        ensures { result ≡ is_polled self.now }
+        ensures { result ≡ polled_in self.now }
     {
         match self {
             Stage::Polled => true,

@@ -1,27 +1,31 @@
 //! The scheduler's state.
-ghost use Rattle.std.specs.Prelude.{◌≡◌, ℕ, ◌+◌, ◌<◌, ◌≤◌, ◌^◌, [], true, false, length, IfOk, IfSome, IfNone, option_map, None, Some, IsOk, OnOk, OnErr};
-ghost use Rattle.vx_sched.specs.Reads.{read_at, is_poll, all_changed};
-ghost use Rattle.vx_sched.specs.Span.{end_of};
-ghost use Rattle.vx_sched.specs.Merging.{raised, Merges, is_listed, span_of};
+ghost use Rattle.std.specs.Prelude.{◌≡◌, ℕ, ◌+◌, ◌<◌, ◌≤◌, ◌==◌, ◌^◌, [], ◌∷◌, true, false, cond, length, IfOk, IfSome, IfNone, option_map, is_some, None, Some, IsOk, OnOk, OnErr};
+ghost use Rattle.vx_sched.specs.Reads.{read_at, waiting_at, polled_at, state_at, ranges_in_flight};
+ghost use Rattle.vx_sched.specs.Span.{Span, end_of};
+ghost use Rattle.vx_sched.specs.Merging.{raised, Merges, is_listed, same_span};
 ghost use Rattle.vx_sched.specs.Picks.{free_at};
-ghost use Rattle.vx_sched.specs.Counting.{counts_of};
-ghost use Rattle.vx_sched.specs.Scheduling.{MayHappen, polled_at, stepped, takes_no_memory, MayTake, MergesNow, MergesInTurn, ranges_in_flight, same_span, NonePolled, taken, all_taken, resolved, in_flight};
+ghost use Rattle.vx_sched.specs.Counting.{counts_of, count_in};
+ghost use Rattle.vx_sched.specs.Law.{IsSound};
+ghost use Rattle.vx_sched.specs.Scheduling.{SameSettings, span_at, IsInFlight, AllInFlight, AreApart, MayHappen, stepped, requested, polled, dropped, takes_no_memory, MayTake, MergesNow, MergesInTurn, NonePolled, NonePolledBelow, taken, all_taken, resolved, all_resolved, settled};
+ghost use Rattle.vx_sched.specs.Chain.{waiting_after, polled_after, IsLeft};
+ghost use Rattle.vx_sched.specs.declared.read.ReadState.TheVariants.{Polled};
 
 use crate::batching::{add_numbers, gathered, lone};
-use crate::flying::{all_fly, greatest_end_of, is_ordered};
-use crate::read::Change;
+use crate::flying::greatest_end_of;
+use crate::gather::Rules;
+use crate::read::ReadState;
 use crate::table::Table;
 use crate::{CoalescedRequest, Counts, ReadEvent, ReadRequest};
 use std::alloc::{AllocError, Global};
 use std::collections::BTreeSet;
 use std::marker::Model;
-use crate::CoalesceConfig;
 use vx_base::Alignment;
 
 /// Reads that are registered, polled, in flight and resolved, and how they are gathered.
 #[derive(Drop)]
 pub struct State {
-    gathering: Option<CoalesceConfig>,
+    gap: Option<u64>,
+    longest: Option<u64>,
     aligned: Alignment,
     most: usize,
     table: Table,
@@ -32,27 +36,17 @@ pub struct State {
 }
 
 impl Model for State {
-    ghost use Rattle.std.specs.Prelude.{◌≡◌, ℕ, ◌+◌, ◌≤◌, None};
+    ghost use Rattle.std.specs.Prelude.{ℕ, ◌+◌, ◌≤◌};
     ghost use Rattle.std.specs.Option.{option_map_or};
-    ghost use Rattle.vx_sched.specs.Reads.{read_at};
     ghost use Rattle.vx_sched.specs.Scheduling.{Scheduler, NonePolledBelow};
+    ghost use Rattle.vx_sched.specs.Law.{IsSound};
 
     ghost Value = { Scheduler };
 
-    ghost view = { λ s. record { window = s.gathering; alignment = s.aligned; concurrency = s.most; reads = s.table; next = option_map_or (λ n. n + 1) s.last 0 } };
+    ghost view = { λ s. record { distance = s.gap; limit = s.longest; alignment = s.aligned; concurrency = s.most; reads = s.table; next = option_map_or (λ n. n + 1) s.last 0 } };
 
-    ghost invariant = { λ s. (1 ≤ s.most) × ((q : ℕ) → option_map_or (λ n. n + 1) s.last 0 ≤ q → read_at s.table q ≡ None) × NonePolledBelow s.table s.from };
-}
-
-/// Changes several reads.
-fn change_all(table: &mut Table, change: Change, reads: &[ReadRequest])
-    ensures changed { table.new ≡ all_changed change table.old reads.now }
-    ensures none { (q : ℕ) → read_at table.old q ≡ None → read_at table.new q ≡ None }
-    ensures idle { is_poll change ≡ false → (q : ℕ) → polled_at table.old q ≡ false → polled_at table.new q ≡ false }
-{
-    for read in reads {
-        table.change(read.id, change);
-    }
+    ghost invariant = { λ s. (1 ≤ s.most) × NonePolledBelow s.table s.from
+        × IsSound (record { distance = s.gap; limit = s.longest; alignment = s.aligned; concurrency = s.most; reads = s.table; next = option_map_or (λ n. n + 1) s.last 0 }) };
 }
 
 /// The least number of some reads.
@@ -67,24 +61,29 @@ fn least_of(reads: &[ReadRequest]) -> u64
 }
 
 impl State {
-    /// A scheduler without reads. The window's limit gets room for the start to be aligned down.
+    /// A scheduler without reads. Without a distance reads are not gathered, and without a greatest size
+    /// spans have no limit. The limit gets room for the start to be aligned down.
     pub fn new(
         alloc: Global,
-        window: Option<CoalesceConfig>,
+        distance: Option<u64>,
+        max_read_size: Option<u64>,
         alignment: Alignment,
         concurrency: usize,
     ) -> State
         requires { 1 ≤ concurrency }
-        ensures { result ≡ record {
-          window = option_map (raised alignment) window;
+        ensures value { result ≡ record {
+          distance = distance;
+          limit = option_map (raised alignment) max_read_size;
           alignment = alignment;
           concurrency = concurrency;
           reads = [];
           next = 0;
         } }
+        ensures rests { ranges_in_flight result.reads ≡ 0 }
     {
         State {
-            gathering: raise(window, alignment),
+            gap: distance,
+            longest: raise(max_read_size, alignment),
             aligned: alignment,
             most: concurrency,
             table: Table::new(alloc),
@@ -99,20 +98,55 @@ impl State {
         ensures step { OnOk result (self.new ≡ stepped self.old event) }
         ensures kept { OnErr result (self.new ≡ self.old) }
         ensures sure { takes_no_memory event ≡ true → IsOk result }
+        ensures waiting { OnOk result ((q : ℕ) → waiting_at self.new.reads q ≡ waiting_after event (waiting_at self.old.reads) q) }
+        ensures polled { OnOk result ((q : ℕ) → polled_at self.new.reads q
+            ≡ polled_after event (waiting_at self.old.reads) (polled_at self.old.reads) q) }
+        ensures settings { SameSettings self.old self.new }
+        ensures ranges { ranges_in_flight self.new.reads ≤ ranges_in_flight self.old.reads }
     {
+        prove!(self.concurrency() >= 1);
         match event {
             ReadEvent::Request(request) => {
-                let id = request.id;
-                self.table.register(request)?;
-                self.last = Some(id);
+                self.request(request)?;
+                Ok(())
             }
             ReadEvent::Polled(id) => {
-                self.table.change(id, Change::Poll);
-                self.from = self.from.min(id);
+                self.poll(id);
+                Ok(())
             }
-            ReadEvent::Dropped(id) => self.table.change(id, Change::Cancel),
+            ReadEvent::Dropped(id) => {
+                self.cancel(id);
+                Ok(())
+            }
         }
+    }
+
+    /// Registers a read. Only memory refuses.
+    fn request(&mut self, request: ReadRequest) -> Result<(), AllocError>
+        requires next { self.old.next ≤ request.id }
+        requires fits { end_of request < 2 ^ 64 }
+        ensures step { OnOk result (self.new ≡ requested self.old request) }
+        ensures kept { OnErr result (self.new ≡ self.old) }
+    {
+        let id = request.id;
+        self.table.register(request)?;
+        self.last = Some(id);
         Ok(())
+    }
+
+    /// Polls the read of a number.
+    fn poll(&mut self, id: u64)
+        ensures { self.new ≡ polled self.old id }
+    {
+        self.table.poll(id);
+        self.from = self.from.min(id);
+    }
+
+    /// Drops the read of a number.
+    fn cancel(&mut self, id: u64)
+        ensures { self.new ≡ dropped self.old id }
+    {
+        self.table.cancel(id);
     }
 
     /// The span of the next read, from what earlier spans leave.
@@ -124,12 +158,18 @@ impl State {
     ) -> Result<CoalescedRequest, AllocError>
         requires free { free_at self.now.reads before.now first.id ≡ Some first }
         requires fits { end_of first < 2 ^ 64 }
-        ensures { IfOk result (λ span. Merges self.now.window self.now.alignment (free_at self.now.reads before.now) first.id span) }
+        ensures { IfOk result (λ span. Merges self.now.distance self.now.limit self.now.alignment
+            (free_at self.now.reads before.now) first.id span) }
     {
-        match self.gathering {
-            None => lone(alloc, first),
-            Some(window) => gathered(alloc, &self.table, before, window, self.aligned, first),
-        }
+        let Some(distance) = self.gap else {
+            return lone(alloc, first);
+        };
+        let rules = Rules {
+            distance,
+            limit: self.longest,
+            alignment: self.aligned,
+        };
+        gathered(alloc, &self.table, before, &rules, first)
     }
 
     /// The spans that are to be asked next, at most so many, each of which merges from what the
@@ -138,6 +178,11 @@ impl State {
         ensures merge { IfOk result (λ spans. MergesInTurn self.now spans.items) }
         ensures most { IfOk result (λ spans. length spans.items ≤ most) }
         ensures all { IfOk result (λ spans. length spans.items < most → NonePolled (all_taken self.now spans.items).reads) }
+        ensures may { IfOk result (λ spans. ranges_in_flight self.now.reads + most ≤ self.now.concurrency →
+            1 ≤ length spans.items → MayTake self.now spans.items) }
+        ensures ranges { IfOk result (λ spans. ranges_in_flight (all_taken self.now spans.items).reads
+            ≡ ranges_in_flight self.now.reads + length spans.items) }
+        ensures apart { IfOk result (λ spans. AreApart spans.items) }
     {
         let mut spans = Vec::new(alloc);
         let mut before = BTreeSet::new(alloc);
@@ -158,27 +203,29 @@ impl State {
     /// Puts the reads of a span in flight.
     fn take_one(&mut self, span: &CoalescedRequest)
         requires { MergesNow self.old span.now }
-        ensures { self.new ≡ taken self.old span.now }
+        ensures value { self.new ≡ taken self.old span.now }
+        ensures flies { IsInFlight self.new span.now }
+        ensures ranges { ranges_in_flight self.new.reads ≡ ranges_in_flight self.old.reads + 1 }
+        ensures may { ranges_in_flight self.old.reads < self.old.concurrency → MayTake self.old (span.now ∷ []) }
+        ensures fewer { count_in Polled self.new.reads < count_in Polled self.old.reads }
     {
         let reads = span.requests();
-        let number = match reads.first() {
-            Some(first) => first.id,
-            None => 0,
-        };
-        let change = Change::Take {
-            span: number,
-            size: reads.len(),
-        };
         let least = least_of(reads);
-        change_all(&mut self.table, change, reads);
+        self.table.take(reads);
         self.from = self.from.max(least);
     }
 
     /// Puts the reads of a batch in flight.
     pub fn take(&mut self, batch: &[CoalescedRequest])
         requires { MayTake self.old batch.now }
-        ensures { self.new ≡ all_taken self.old batch.now }
+        ensures value { self.new ≡ all_taken self.old batch.now }
+        ensures flies { AllInFlight self.new batch.now }
+        ensures apart { AreApart batch.now }
+        ensures ranges { ranges_in_flight self.new.reads ≡ ranges_in_flight self.old.reads + length batch.now }
+        ensures fewer { count_in Polled self.new.reads < count_in Polled self.old.reads }
+        ensures settings { SameSettings self.old self.new }
     {
+        prove!(self.concurrency() >= 1);
         for span in batch {
             self.take_one(span);
         }
@@ -186,10 +233,43 @@ impl State {
 
     /// Resolves the reads of a span in flight; those that were dropped are gone.
     pub fn resolve(&mut self, range: &CoalescedRequest)
-        requires { in_flight self.old range.now ≡ true }
-        ensures { self.new ≡ resolved self.old range.now }
+        requires { IsInFlight self.old range.now }
+        ensures value { self.new ≡ resolved self.old range.now }
+        ensures waiting { (q : ℕ) → waiting_at self.new.reads q ≡ waiting_at self.old.reads q }
+        ensures polled { (q : ℕ) → polled_at self.new.reads q ≡ polled_at self.old.reads q }
+        ensures ranges { ranges_in_flight self.old.reads ≡ ranges_in_flight self.new.reads + 1 }
     {
-        change_all(&mut self.table, Change::Resolve, range.requests());
+        self.table.resolve(range.requests());
+    }
+
+    /// Takes a batch and resolves each of its spans, as a caller with one thread does.
+    pub fn settle(&mut self, batch: &[CoalescedRequest])
+        requires { MayTake self.old batch.now }
+        ensures value { self.new ≡ settled self.old batch.now }
+        ensures waiting { (q : ℕ) → waiting_at self.new.reads q ≡ waiting_at (all_taken self.old batch.now).reads q }
+        ensures polled { (q : ℕ) → polled_at self.new.reads q ≡ polled_at (all_taken self.old batch.now).reads q }
+        ensures ranges { ranges_in_flight self.new.reads ≡ ranges_in_flight self.old.reads }
+        ensures fewer { count_in Polled self.new.reads < count_in Polled self.old.reads }
+        ensures settings { SameSettings self.old self.new }
+        ensures next { self.new.next ≡ self.old.next }
+    {
+        self.take(batch);
+        self.resolve_all(batch);
+    }
+
+    /// Resolves several spans.
+    fn resolve_all(&mut self, batch: &[CoalescedRequest])
+        requires flies { AllInFlight self.old batch.now }
+        requires apart { AreApart batch.now }
+        ensures value { self.new ≡ all_resolved self.old batch.now }
+        ensures left { IsLeft self.old self.new }
+        ensures ranges { ranges_in_flight self.old.reads ≡ ranges_in_flight self.new.reads + length batch.now }
+    {
+        prove!(self.concurrency() >= 1);
+        for span in batch {
+            prove!(self.concurrency() >= 1);
+            self.resolve(span);
+        }
     }
 
     /// The next span, taken: a batch of one. There is none exactly where no polled read waits. Only
@@ -198,6 +278,10 @@ impl State {
         requires { ranges_in_flight self.old.reads < self.old.concurrency }
         ensures merges { IfOk result (λ found. IfSome found (MergesNow self.old)) }
         ensures taken { IfOk result (λ found. IfSome found (λ span. self.new ≡ taken self.old span)) }
+        ensures may { IfOk result (λ found. IfSome found (λ span. MayTake self.old (span ∷ []))) }
+        ensures flies { IfOk result (λ found. IfSome found (IsInFlight self.new)) }
+        ensures ranges { IfOk result (λ found. IfSome found (λ _. ranges_in_flight self.new.reads ≡ ranges_in_flight self.old.reads + 1)) }
+        ensures fewer { IfOk result (λ found. IfSome found (λ _. count_in Polled self.new.reads < count_in Polled self.old.reads)) }
         ensures none { IfOk result (λ found. IfNone found (NonePolled self.old.reads)) }
         ensures idle { IfOk result (λ found. IfNone found (self.new ≡ self.old)) }
         ensures kept { OnErr result (self.new ≡ self.old) }
@@ -215,29 +299,45 @@ impl State {
         }
     }
 
+    /// How many ranges may be in flight. The numbers of the reads rise and lie below the next one, and
+    /// the spans in flight hold the reads in flight.
+    pub fn concurrency(&self) -> usize
+        ensures value { result ≡ self.now.concurrency }
+        ensures some { 1 ≤ self.now.concurrency }
+        ensures sound { IsSound self.now }
+    {
+        self.most
+    }
+
+    /// Where the read of a number stands, if there is one.
+    pub fn read_state(&self, id: u64) -> Option<ReadState>
+        ensures { result ≡ state_at self.now.reads id }
+    {
+        self.table.state(id)
+    }
+
     /// Whether a span is in flight.
     pub fn is_in_flight(&self, range: &CoalescedRequest) -> bool
-        ensures { result ≡ in_flight self.now range.now }
+        ensures flies { result ≡ true → IsInFlight self.now range.now }
+        ensures rests { result ≡ false → IsInFlight self.now range.now → ⊥ }
     {
         let reads = range.requests();
-        let Some(first) = reads.first() else {
+        if reads.is_empty() {
             return false;
-        };
-        is_ordered(reads)
-            && all_fly(&self.table, first.id, reads.len(), reads)
-            && self.has_range(range)
+        }
+        self.has_range(range) && self.table.is_in_flight(reads)
     }
 
     /// Whether a span with reads has the range and the alignment that the settings give its reads.
     fn has_range(&self, range: &CoalescedRequest) -> bool
         requires { 1 ≤ length range.now.reads }
-        ensures { result ≡ same_span range.now (span_of self.now.window self.now.alignment range.now.reads) }
+        ensures { result ≡ same_span range.now (span_at self.now range.now.reads) }
     {
         let reads = range.requests();
         let place = range.range();
         let exponent = range.alignment().exponent();
         let first = reads[0];
-        match self.gathering {
+        match self.gap {
             None => {
                 place.start == first.offset
                     && place.end == first.offset + first.length as u64
@@ -259,15 +359,12 @@ impl State {
     }
 }
 
-/// The window with room for the start to be aligned down.
-fn raise(window: Option<CoalesceConfig>, alignment: Alignment) -> Option<CoalesceConfig>
-    ensures { result ≡ option_map (raised alignment) window }
+/// The limit of a greatest size, with room for the start to be aligned down.
+fn raise(max_read_size: Option<u64>, alignment: Alignment) -> Option<u64>
+    ensures { result ≡ option_map (raised alignment) max_read_size }
 {
-    match window {
+    match max_read_size {
         None => None,
-        Some(window) => Some(CoalesceConfig {
-            distance: window.distance,
-            max_size: window.max_size.saturating_add(alignment.as_u64() - 1),
-        }),
+        Some(size) => Some(size.saturating_add(alignment.as_u64() - 1)),
     }
 }

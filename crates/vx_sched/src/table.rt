@@ -1,20 +1,23 @@
 //! The reads of a scheduler, by number, and the places of those that wait.
-ghost use Rattle.std.specs.Prelude.{◌≡◌, ℕ, ◌==◌, ◌<◌, ◌≤◌, map, IfOk, ◌^◌, [], None, Some, cond, true, false, ◌&&◌, not, IsSome, IfSome, IfNone, OnOk, OnErr, option_map};
+ghost use Rattle.std.specs.Prelude.{◌≡◌, ℕ, ◌==◌, ◌<◌, ◌≤◌, ◌++◌, ◌∷◌, map, length, IfOk, ◌^◌, [], None, Some, cond, true, false, ◌&&◌, not, IsSome, IfSome, IfNone, OnOk, OnErr, option_map};
 ghost use Rattle.std.specs.BTreeMap.{insert_entry, is_at};
 ghost use Rattle.std.specs.BTreeSet.{contains, keys_between};
-ghost use Rattle.std.specs.List.{list_any};
+ghost use Rattle.std.specs.List.{list_any, AllByRecursion};
 ghost use Rattle.std.specs.declared.ops.Bound.TheVariants.{Included};
 ghost use Rattle.vx_sched.specs.declared.request.ReadRequest.{ReadRequest};
+ghost use Rattle.vx_sched.specs.declared.read.Read.{Read};
 ghost use Rattle.std.specs.Ordering.{nat_cmp};
 ghost use Rattle.vx_sched.specs.Span.{end_of};
-ghost use Rattle.vx_sched.specs.Reads.{read_at, waiting_at, changed, with_stage, is_waiting, is_polled, is_poll};
-ghost use Rattle.vx_sched.specs.Places.{AllFit, place_cmp, stays_waiting};
-ghost use Rattle.vx_sched.specs.Scheduling.{polled_at};
+ghost use Rattle.vx_sched.specs.Entries.{Entries, entry_at, if_waits, state_of, changed, all_changed, with_stage, waits_in, polled_in, polled_entry};
+ghost use Rattle.vx_sched.specs.Reads.{read_at, waiting_at, polled_at, state_at, leads_at, change, register_read, poll_read, drop_read, take_read, resolve_read};
+ghost use Rattle.vx_sched.specs.Merging.{is_listed, is_in_order, first_number};
+ghost use Rattle.vx_sched.specs.Places.{AllFit, IsKept, place_cmp, stays_waiting};
 ghost use Rattle.vx_sched.specs.Counting.{counts_of};
 
 use crate::ReadRequest;
 use crate::counts::{Counts, Kind, count_kind};
-use crate::read::{Change, Read, Stage, stage_after};
+use crate::flying::{all_fly, is_ordered};
+use crate::read::{Change, Read, ReadState, Stage, stage_after};
 use std::alloc::{AllocError, Global};
 use std::collections::{BTreeMap, BTreeSet};
 use std::marker::Model;
@@ -24,17 +27,20 @@ use std::marker::Model;
 pub struct Table {
     reads: BTreeMap<u64, Read>,
     places: BTreeSet<(u64, u64)>,
+    /// No read is longer than this.
+    longest: u64,
 }
 
 impl Model for Table {
     ghost use Rattle.vx_sched.specs.Reads.{Reads};
+    ghost use Rattle.vx_sched.specs.Entries.{seen};
     ghost use Rattle.vx_sched.specs.Places.{IsTable};
 
     ghost Value = { Reads };
 
-    ghost view = { λ t. t.reads.entries };
+    ghost view = { λ t. seen t.reads.entries };
 
-    ghost invariant = { λ t. IsTable t.reads.entries t.places };
+    ghost invariant = { λ t. IsTable t.reads.entries t.places t.longest };
 }
 
 /// Adds a read and its place, or neither.
@@ -45,9 +51,9 @@ fn add(
 ) -> Result<(), AllocError>
     ensures entries { OnOk result (reads.new.entries ≡ insert_entry nat_cmp reads.old.entries request.id
         (record { request = request; stage = Stage.Registered })) }
-    ensures lookups { OnOk result ((q : ℕ) → read_at reads.new.entries q
+    ensures lookups { OnOk result ((q : ℕ) → entry_at reads.new.entries q
         ≡ cond (is_at (nat_cmp request.id) q) (Some (record { request = request; stage = Stage.Registered }))
-        (read_at reads.old.entries q)) }
+        (entry_at reads.old.entries q)) }
     ensures places { OnOk result ((k : ℕ × ℕ) → contains place_cmp places.new k
         ≡ cond (is_at (place_cmp (request.offset, request.id)) k) true (contains place_cmp places.old k)) }
     ensures kept { OnErr result (reads.new.entries ≡ reads.old.entries) }
@@ -72,10 +78,10 @@ fn add(
 
 /// Puts the read of a number, which is there, in another stage, or takes it out.
 fn put(reads: &mut BTreeMap<u64, Read>, id: u64, request: ReadRequest, stage: Option<Stage>)
-    requires { IsSome (read_at reads.old.entries id) }
+    requires { IsSome (entry_at reads.old.entries id) }
     ensures entries { reads.new.entries ≡ with_stage reads.old.entries id request stage }
-    ensures lookups { (q : ℕ) → read_at reads.new.entries q ≡ cond (is_at (nat_cmp id) q)
-        (option_map (λ s. record { request = request; stage = s }) stage) (read_at reads.old.entries q) }
+    ensures lookups { (q : ℕ) → entry_at reads.new.entries q ≡ cond (is_at (nat_cmp id) q)
+        (option_map (λ s. record { request = request; stage = s }) stage) (entry_at reads.old.entries q) }
 {
     match stage {
         Some(stage) => match reads.insert(id, Read { request, stage }) {
@@ -91,7 +97,7 @@ fn put(reads: &mut BTreeMap<u64, Read>, id: u64, request: ReadRequest, stage: Op
 /// Takes the place of a read out, where it waits no longer.
 fn leave(places: &mut BTreeSet<(u64, u64)>, read: &Read, stage: Option<Stage>)
     ensures { (k : ℕ × ℕ) → contains place_cmp places.new k ≡ cond
-        (is_waiting read.now.stage && not (stays_waiting stage) && is_at (place_cmp (read.now.request.offset, read.now.request.id)) k)
+        (waits_in read.now.stage && not (stays_waiting stage) && is_at (place_cmp (read.now.request.offset, read.now.request.id)) k)
         false (contains place_cmp places.old k) }
 {
     let stays = match stage {
@@ -123,7 +129,7 @@ fn numbers_between(
 
 /// Whether a read was polled and waits, and is not among some.
 fn is_next(id: u64, read: &Read, taken: &BTreeSet<u64>) -> bool
-    ensures { result ≡ (is_polled read.now.stage && not (contains nat_cmp taken.now id)) }
+    ensures { result ≡ (polled_in read.now.stage && not (contains nat_cmp taken.now id)) }
 {
     read.stage.is_polled() && !taken.contains(&id)
 }
@@ -134,12 +140,12 @@ fn first_polled(
     from: u64,
     taken: &BTreeSet<u64>,
 ) -> Option<(u64, ReadRequest)>
-    ensures found { IfSome result (λ p. read_at reads.now.entries p.0
+    ensures found { IfSome result (λ p. entry_at reads.now.entries p.0
         ≡ Some (record { request = p.1; stage = Stage.Polled })) }
     ensures fresh { IfSome result (λ p. contains nat_cmp taken.now p.0 ≡ false) }
-    ensures least { IfSome result (λ p. (q : ℕ) → from ≤ q → q < p.0 → polled_at reads.now.entries q ≡ true →
+    ensures least { IfSome result (λ p. (q : ℕ) → from ≤ q → q < p.0 → polled_entry reads.now.entries q ≡ true →
         contains nat_cmp taken.now q ≡ true) }
-    ensures none { IfNone result ((q : ℕ) → from ≤ q → polled_at reads.now.entries q ≡ true →
+    ensures none { IfNone result ((q : ℕ) → from ≤ q → polled_entry reads.now.entries q ≡ true →
         contains nat_cmp taken.now q ≡ true) }
 {
     for (id, read) in reads.range(from..) {
@@ -150,6 +156,81 @@ fn first_polled(
     None
 }
 
+/// The entry of a number.
+fn entry(reads: &BTreeMap<u64, Read>, id: u64) -> Option<Read>
+    ensures { result ≡ entry_at reads.now.entries id }
+{
+    reads.get(&id).copied()
+}
+
+/// The request of an entry that waits.
+fn if_waits(found: Option<Read>) -> Option<ReadRequest>
+    ensures { result ≡ if_waits found }
+{
+    match found {
+        Some(read) => {
+            if read.stage.is_waiting() {
+                Some(read.request)
+            } else {
+                None
+            }
+        }
+        None => None,
+    }
+}
+
+/// The state of an entry.
+fn if_state(found: Option<Read>) -> Option<ReadState>
+    ensures { result ≡ option_map (λ (x : Read). state_of x.stage) found }
+{
+    match found {
+        Some(read) => Some(read.stage.state()),
+        None => None,
+    }
+}
+
+/// Changes the read of a number, if there is one.
+fn change_entry(
+    reads: &mut BTreeMap<u64, Read>,
+    places: &mut BTreeSet<(u64, u64)>,
+    id: u64,
+    change: Change,
+)
+    ensures changed { reads.new.entries ≡ changed change reads.old.entries id }
+    ensures kept { (longest : ℕ) → IsKept reads.old.entries places.old longest → IsKept reads.new.entries places.new longest }
+{
+    if let Some(read) = entry(reads, id) {
+        let stage = stage_after(change, read.stage);
+        put(reads, id, read.request, stage);
+        leave(places, &read, stage);
+    }
+}
+
+/// Changes several reads.
+fn change_entries(
+    reads: &mut BTreeMap<u64, Read>,
+    places: &mut BTreeSet<(u64, u64)>,
+    change: Change,
+    span: &[ReadRequest],
+)
+    ensures changed { reads.new.entries ≡ all_changed change reads.old.entries span.now }
+    ensures kept { (longest : ℕ) → IsKept reads.old.entries places.old longest → IsKept reads.new.entries places.new longest }
+{
+    for read in span {
+        change_entry(reads, places, read.id, change);
+    }
+}
+
+/// The number of the first read.
+fn number_of(span: &[ReadRequest]) -> u64
+    ensures { result ≡ first_number span.now }
+{
+    match span.first() {
+        Some(first) => first.id,
+        None => 0,
+    }
+}
+
 impl Table {
     pub fn new(alloc: Global) -> Table
         ensures { result ≡ [] }
@@ -157,14 +238,16 @@ impl Table {
         Table {
             reads: BTreeMap::new(alloc),
             places: BTreeSet::new(alloc),
+            longest: 0,
         }
     }
 
-    pub fn read(&self, id: u64) -> Option<Read>
-        ensures value { result ≡ read_at self.now id }
-        ensures keyed { IfSome result (λ x. (x.request.id ≡ id) × (end_of x.request < 2 ^ 64)) }
+    /// Where the read of a number stands.
+    pub fn state(&self, id: u64) -> Option<ReadState>
+        ensures { result ≡ state_at self.now id }
     {
-        self.reads.get(&id).copied()
+        let found = entry(&self.reads, id);
+        if_state(found)
     }
 
     /// The waiting read of a number.
@@ -172,17 +255,14 @@ impl Table {
         ensures value { result ≡ waiting_at self.now id }
         ensures keyed { IfSome result (λ r. (r.id ≡ id) × (end_of r < 2 ^ 64)) }
     {
-        let read = self.read(id)?;
-        if read.stage.is_waiting() {
-            Some(read.request)
-        } else {
-            None
-        }
+        let found = entry(&self.reads, id);
+        if_waits(found)
     }
 
     /// The polled read of least number, from a number on, that is not among some.
     pub fn next_polled(&self, from: u64, taken: &BTreeSet<u64>) -> Option<ReadRequest>
-        ensures found { IfSome result (λ r. read_at self.now r.id ≡ Some (record { request = r; stage = Stage.Polled })) }
+        ensures found { IfSome result (λ r. waiting_at self.now r.id ≡ Some r) }
+        ensures polled { IfSome result (λ r. polled_at self.now r.id ≡ true) }
         ensures fresh { IfSome result (λ r. contains nat_cmp taken.now r.id ≡ false) }
         ensures fits { IfSome result (λ r. end_of r < 2 ^ 64) }
         ensures least { IfSome result (λ r. (q : ℕ) → from ≤ q → q < r.id → polled_at self.now q ≡ true →
@@ -196,14 +276,24 @@ impl Table {
         }
     }
 
-    /// The numbers of the waiting reads whose offsets lie in bounds, in order. Only memory refuses.
-    pub fn places_near(&self, alloc: Global, left: u64, right: u64) -> Result<Vec<u64>, AllocError>
-        requires { left ≤ right }
+    /// The numbers of waiting reads, those among them that end at `left` or after and begin from `from` to
+    /// `right`, in order. Since no read is longer than the longest, few others are. Only memory refuses.
+    pub fn places_near(
+        &self,
+        alloc: Global,
+        left: u64,
+        from: u64,
+        right: u64,
+    ) -> Result<Vec<u64>, AllocError>
         ensures complete { IfOk result (λ ids. (id : ℕ) (r : ReadRequest) → waiting_at self.now id ≡ Some r →
-            left ≤ r.offset → r.offset ≤ right → list_any (λ n. n == id) ids.items ≡ true) }
+            left ≤ end_of r → from ≤ r.offset → r.offset ≤ right → list_any (λ n. n == id) ids.items ≡ true) }
         ensures fit { AllFit self.now }
     {
-        let ids = numbers_between(alloc, &self.places, left, right)?;
+        let first = from.max(left.saturating_sub(self.longest));
+        if first > right {
+            return Ok(Vec::new(alloc));
+        }
+        let ids = numbers_between(alloc, &self.places, first, right)?;
         Ok(ids)
     }
 
@@ -220,30 +310,62 @@ impl Table {
         }
     }
 
-    /// Registers a read of a new number. Only memory refuses.
+    /// Registers a read whose number is above all others. Only memory refuses.
     pub fn register(&mut self, request: ReadRequest) -> Result<(), AllocError>
-        requires fresh { read_at self.old request.id ≡ None }
+        requires fresh { (q : ℕ) → request.id ≤ q → read_at self.old q ≡ None }
         requires fits { end_of request < 2 ^ 64 }
-        ensures registered { OnOk result (self.new ≡ insert_entry nat_cmp self.old request.id
-            (record { request = request; stage = Stage.Registered })) }
-        ensures others { OnOk result ((q : ℕ) → request.id < q → read_at self.new q ≡ read_at self.old q) }
-        ensures idle { OnOk result ((q : ℕ) → polled_at self.old q ≡ false → polled_at self.new q ≡ false) }
+        ensures registered { OnOk result (self.new ≡ self.old ++ register_read request ∷ []) }
         ensures kept { OnErr result (self.new ≡ self.old) }
     {
-        add(&mut self.reads, &mut self.places, request)
+        let longest = self.longest.max(request.length as u64);
+        add(&mut self.reads, &mut self.places, request)?;
+        self.longest = longest;
+        Ok(())
     }
 
-    /// Changes the read of a number, if there is one.
-    pub fn change(&mut self, id: u64, change: Change)
-        ensures changed { self.new ≡ changed change self.old id }
-        ensures others { (q : ℕ) → (id == q) ≡ false → read_at self.new q ≡ read_at self.old q }
-        ensures idle { is_poll change ≡ false → (q : ℕ) → polled_at self.old q ≡ false → polled_at self.new q ≡ false }
-        ensures none { (q : ℕ) → read_at self.old q ≡ None → read_at self.new q ≡ None }
+    /// Polls the read of a number, if it is registered.
+    pub fn poll(&mut self, id: u64)
+        ensures { self.new ≡ change (λ n. n == id) poll_read self.old }
     {
-        if let Some(read) = self.read(id) {
-            let stage = stage_after(change, read.stage);
-            put(&mut self.reads, id, read.request, stage);
-            leave(&mut self.places, &read, stage);
-        }
+        change_entry(&mut self.reads, &mut self.places, id, Change::Poll);
+    }
+
+    /// Takes the read of a number out, or marks it where it is in flight.
+    pub fn cancel(&mut self, id: u64)
+        ensures { self.new ≡ change (λ n. n == id) drop_read self.old }
+    {
+        change_entry(&mut self.reads, &mut self.places, id, Change::Cancel);
+    }
+
+    /// Puts waiting reads in flight in one span.
+    pub fn take(&mut self, span: &[ReadRequest])
+        requires some { 1 ≤ length span.now }
+        requires order { is_in_order span.now ≡ true }
+        requires waits { AllByRecursion (λ r. waiting_at self.old r.id ≡ Some r) span.now }
+        ensures { self.new ≡ change (is_listed span.now) (take_read span.now) self.old }
+    {
+        let change = Change::Take {
+            span: number_of(span),
+            size: span.len(),
+        };
+        change_entries(&mut self.reads, &mut self.places, change, span);
+    }
+
+    /// Resolves the reads of a span in flight; those that were dropped are gone.
+    pub fn resolve(&mut self, span: &[ReadRequest])
+        requires some { 1 ≤ length span.now }
+        requires flies { leads_at self.old (first_number span.now) ≡ span.now }
+        ensures { self.new ≡ change (is_listed span.now) resolve_read self.old }
+    {
+        change_entries(&mut self.reads, &mut self.places, Change::Resolve, span);
+    }
+
+    /// Whether reads are those of a span in flight.
+    pub fn is_in_flight(&self, span: &[ReadRequest]) -> bool
+        requires some { 1 ≤ length span.now }
+        ensures flies { result ≡ true → leads_at self.now (first_number span.now) ≡ span.now }
+        ensures rests { result ≡ false → leads_at self.now (first_number span.now) ≡ span.now → ⊥ }
+    {
+        is_ordered(span) && all_fly(&self.reads, number_of(span), span.len(), span)
     }
 }

@@ -6,7 +6,7 @@ use Rattle.vx_sched.proofs.gather.gather.Given as goal
 
 abbrev pub invariant-loop-seen : goal.invariant-loop-seen
 invariant-loop-seen l = IsPicked l.rules l.table l.before l.picks × (is_listed (values l.picks.reads) l.fn.first.id ≡ true)
-    × AreLookedAt l.rules l.table l.before l.seen.left l.seen.right l.picks
+    × AreLookedAt l.rules l.table l.before l.seen.left 0 l.seen.right l.picks
     × (l.picks.low - l.rules.distance ≤ l.seen.left) × (l.seen.left ≤ l.seen.right)
     × (l.seen.right ≤ min (l.picks.high + l.rules.distance) (2 ^ 64 - 1))
 

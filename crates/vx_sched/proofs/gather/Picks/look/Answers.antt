@@ -7,7 +7,7 @@ use Rattle.vx_sched.proofs.PickLemmas.{added}
 use Rattle.vx_sched.proofs.gather.Picks.look.Goals as goal
 
 pub returns-then-contains_key-clause-looked : goal.returns-then-contains_key-clause-looked
-returns-then-contains_key-clause-looked c = λ r _ _ _ unlisted.
+returns-then-contains_key-clause-looked c = λ r _ _ _ _ unlisted.
     let free : free_at c.args.table.now c.args.before.now c.in-Some.read.id ≡ Some c.in-Some.read =
     subst (λ n. free_at c.args.table.now c.args.before.now n ≡ Some c.in-Some.read) (sym c.in-Some.ensures.keyed.0) (sym c.in-Some.ensures.value) in
     let found = found-listed (free_at c.args.table.now c.args.before.now) c.in-Some.read c.args.self.now.reads.entries free c.requires.picked.placed c.requires.picked.free in
@@ -24,10 +24,10 @@ returns c =
     let upto = c.requires.right in
     let add = c.in_ok-add.ensures in
     let new = added c.args.rules.now c.args.table.now c.args.before.now c.args.self.now c.add.new.self c.in-Some.read c.requires.picked free unlisted
-    (omega (arith, from, c.if-read-bounds.false)) (omega (arith, upto, c.if-read-bounds-2.false)) (c.is_too_long.ensures.short c.if-is_too_long.false)
+    (omega (arith, from, c.if-end-bounds.false)) (omega (arith, upto, c.if-read-bounds.false)) (c.is_too_long.ensures.short c.if-is_too_long.false)
     add.reads add.low add.high in
     record {
       picked = new.picked;
       more = new.more;
-      looked = λ r _ _ _ k. cc (sym (subst (λ n. is_listed (values c.add.new.self.reads) n ≡ true) c.in-Some.ensures.keyed.0 new.listed) ∙ k);
+      looked = λ r _ _ _ _ k. cc (sym (subst (λ n. is_listed (values c.add.new.self.reads) n ≡ true) c.in-Some.ensures.keyed.0 new.listed) ∙ k);
     }
