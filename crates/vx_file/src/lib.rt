@@ -2,6 +2,8 @@
 #![tactic(auto)]
 
 mod drive;
+#[cfg(test)]
+mod example;
 mod queue;
 mod reading;
 mod reply;
