@@ -1,0 +1,4 @@
+pub mod Checks
+pub mod Refusing
+pub mod Dtype
+pub mod DtypeTable

@@ -1,0 +1,12 @@
+//! Types, layouts and statistics of columns, and the tables and texts that spell them.
+#![tactic(auto)]
+
+mod data_error;
+mod dtype;
+mod dtype_parts;
+mod dtype_reading;
+mod ptype;
+
+pub use data_error::DataError;
+pub use dtype::{DType, Fields, dtype_is_shared};
+pub use ptype::PType;
