@@ -5,8 +5,12 @@ mod data_error;
 mod dtype;
 mod dtype_parts;
 mod dtype_reading;
+mod layout;
+mod layout_kind;
 mod ptype;
 
 pub use data_error::DataError;
 pub use dtype::{DType, Fields, dtype_is_shared};
+pub use layout::{Layout, layout_is_shared};
+pub use layout_kind::LayoutKind;
 pub use ptype::PType;
