@@ -1,2 +1,5 @@
 pub mod Shared
 pub mod Known
+pub mod Rows
+pub mod Fitted
+pub mod Fitting

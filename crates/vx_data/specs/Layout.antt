@@ -1,5 +1,5 @@
 -- How the rows of a column are laid out, as plain data, and which trees fit a type.
-use Rattle.std.specs.Prelude.{◌≡◌, ℕ, suc, ◌+◌, Bool, true, false, ◌&&◌, ◌==◌, List, [], ◌∷◌, length, map, replicate, sum_by, Option, Some, None}
+use Rattle.std.specs.Prelude.{◌≡◌, ℕ, suc, ◌+◌, Bool, true, false, ◌&&◌, ◌==◌, List, [], ◌∷◌, ◌++◌, length, map, replicate, sum_by, Option, Some, None}
 use Rattle.std.specs.List.{list_all}
 use Rattle.vx_base.specs.declared.segment.SegmentId.{SegmentId}
 use Rattle.vx_data.specs.declared.layout_kind.LayoutKind.{LayoutKind}
@@ -49,15 +49,15 @@ dtypes_of no_fields = []
 dtypes_of (field n d fs) = d ∷ dtypes_of fs
 
 -- where rows may be null, a column of truth values first, true for a row that is there
-abbrev pub with_validity : Bool → List Dtype → List Dtype
-with_validity true ds = bool false ∷ ds
-with_validity false ds = ds
+abbrev pub validity : Bool → List Dtype
+validity true = bool false ∷ []
+validity false = []
 
 -- the types of the children, where a node of this kind can have the type
 abbrev pub child_dtypes : LayoutKind → Dtype → ℕ → Option (List Dtype)
 child_dtypes Flat d count = Some []
 child_dtypes Chunked d count = Some (replicate count d)
-child_dtypes Struct (struct fs nullable) count = Some (with_validity nullable (dtypes_of fs))
+child_dtypes Struct (struct fs nullable) count = Some (validity nullable ++ dtypes_of fs)
 child_dtypes Struct (bool nullable) count = None
 child_dtypes Struct (int ptype nullable) count = None
 child_dtypes Struct (text nullable) count = None

@@ -5,3 +5,4 @@ pub mod DtypeTable
 pub mod Layout
 pub mod Codes
 pub mod Sizes
+pub mod LayoutTable

@@ -7,6 +7,11 @@ mod dtype_parts;
 mod dtype_reading;
 mod layout;
 mod layout_kind;
+mod layout_kinds;
+mod layout_reading;
+mod layout_row;
+mod layout_shape;
+mod layout_walk;
 mod ptype;
 
 pub use data_error::DataError;
