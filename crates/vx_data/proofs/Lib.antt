@@ -3,3 +3,4 @@ pub mod Known
 pub mod Rows
 pub mod Fitted
 pub mod Fitting
+pub mod FieldTexts

@@ -6,3 +6,7 @@ pub mod Layout
 pub mod Codes
 pub mod Sizes
 pub mod LayoutTable
+pub mod Texts
+pub mod Scalar
+pub mod Stats
+pub mod Session

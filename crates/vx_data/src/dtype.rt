@@ -20,13 +20,13 @@ pub enum DType {
 #[cycle(dtype)]
 #[derive(Debug, Drop)]
 pub struct Fields {
-    kept: Kept,
+    pub(crate) kept: Kept,
 }
 
 // Fields of this value alone, or fields with several owners.
 #[cycle(dtype)]
 #[derive(Debug, Drop)]
-enum Kept {
+pub(crate) enum Kept {
     Owned(Vec<(String, DType)>),
     Shared(Arc<Vec<(String, DType)>, Global>),
 }
