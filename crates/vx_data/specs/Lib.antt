@@ -10,3 +10,5 @@ pub mod Texts
 pub mod Scalar
 pub mod Stats
 pub mod Session
+pub mod StatsEntry
+pub mod StatsTable

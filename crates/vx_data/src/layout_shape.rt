@@ -32,7 +32,7 @@ fn validity(alloc: Global, nullable: bool) -> Result<Vec<DType>, AllocError>
 }
 
 /// Adds the types of fields.
-fn push_dtypes(
+pub(crate) fn push_dtypes(
     alloc: Global,
     dtypes: &mut Vec<DType>,
     fields: &[(String, DType)],

@@ -17,7 +17,10 @@ mod layout_walk;
 mod ptype;
 mod quoted;
 mod scalar;
+mod scalar_reading;
 mod session;
+mod stats_entry;
+mod stats_reading;
 mod stats_set;
 
 pub use data_error::DataError;
@@ -29,4 +32,5 @@ pub use ptype::PType;
 pub use quoted::quote;
 pub use scalar::Scalar;
 pub use session::{ComponentKind, VortexSession, session_is_shared};
+pub use stats_reading::read_stats;
 pub use stats_set::{Precision, Stat, StatsSet};
