@@ -4,5 +4,5 @@ pub mod Rows
 pub mod Fitted
 pub mod Fitting
 pub mod FieldTexts
-pub mod Utf8
 pub mod Sets
+pub mod Children

@@ -12,3 +12,4 @@ pub mod Stats
 pub mod Session
 pub mod StatsEntry
 pub mod StatsTable
+pub mod ChildTypes

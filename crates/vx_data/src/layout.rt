@@ -150,6 +150,16 @@ impl Layout {
         &self.children
     }
 
+    /// The layouts below, whose rows are those of the layout where it is chunked.
+    pub(crate) fn chunks(&self) -> &[Layout]
+        ensures below { layouts_of result.now ≡ children_of self.now }
+        ensures rows { kind_of self.now ≡ LayoutKind.Chunked → rows_sum result.now < 2 ^ 64 }
+    {
+        let rows = self.row_count;
+        prove!(rows <= u64::MAX);
+        &self.children
+    }
+
     /// The same layout. Its children are not copied.
     pub fn share(&self, alloc: Global) -> Result<Layout, AllocError>
         ensures { IfOk result (λ layout. layout ≡ self.now) }

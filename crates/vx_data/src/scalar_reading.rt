@@ -120,7 +120,7 @@ fn truth_of(cells: &[u8]) -> Option<Scalar>
 }
 
 /// The text that these bytes are.
-#[tactic(auto, using(crate::proofs::Utf8::utf8_tests))]
+#[tactic(auto, using(vx_tables::proofs::Text::utf8_tests))]
 fn words_of(alloc: Global, cells: &[u8]) -> Result<Option<Scalar>, AllocError>
     ensures { IfOk result (λ s. option_map scalar_view s ≡ text_by cells.now) }
 {
