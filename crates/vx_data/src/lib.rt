@@ -36,3 +36,6 @@ pub use scalar::Scalar;
 pub use session::{ComponentKind, VortexSession, session_is_shared};
 pub use stats_reading::read_stats;
 pub use stats_set::{Precision, Stat, StatsSet};
+
+#[cfg(test)]
+mod tests;
