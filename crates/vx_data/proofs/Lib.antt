@@ -6,3 +6,4 @@ pub mod Fitting
 pub mod FieldTexts
 pub mod Sets
 pub mod Children
+pub mod FieldTables

@@ -13,3 +13,5 @@ pub mod Session
 pub mod StatsEntry
 pub mod StatsTable
 pub mod ChildTypes
+pub mod Written
+pub mod DtypeWritten

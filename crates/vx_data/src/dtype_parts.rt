@@ -10,10 +10,10 @@ use crate::{DType, Fields, PType};
 use std::alloc::{AllocError, Global};
 use vx_tables::WalkError;
 
-const BOOL: u8 = 1;
+pub(crate) const BOOL: u8 = 1;
 pub(crate) const INTEGER: u8 = 2;
-const TEXT: u8 = 3;
-const STRUCT: u8 = 4;
+pub(crate) const TEXT: u8 = 3;
+pub(crate) const STRUCT: u8 = 4;
 
 /// The type of integers with this number.
 fn ptype_at(number: u8) -> Option<PType>

@@ -6,6 +6,7 @@ mod dtype;
 mod dtype_parts;
 mod dtype_reading;
 mod dtype_text;
+mod dtype_writing;
 mod field_path;
 mod layout;
 mod layout_child_type;
@@ -23,6 +24,7 @@ mod session;
 mod stats_entry;
 mod stats_reading;
 mod stats_set;
+mod table_write_error;
 
 pub use data_error::DataError;
 pub use dtype::{DType, Fields, dtype_is_shared};
@@ -36,6 +38,7 @@ pub use scalar::Scalar;
 pub use session::{ComponentKind, VortexSession, session_is_shared};
 pub use stats_reading::read_stats;
 pub use stats_set::{Precision, Stat, StatsSet};
+pub use table_write_error::TableWriteError;
 
 #[cfg(test)]
 mod tests;
