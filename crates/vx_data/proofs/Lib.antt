@@ -7,3 +7,4 @@ pub mod FieldTexts
 pub mod Sets
 pub mod Children
 pub mod FieldTables
+pub mod LayoutTables

@@ -13,10 +13,10 @@ use vx_base::ByteBuffer;
 use vx_tables::{TableError, TableWriter};
 
 /// How many tables may lie one in the other.
-const MOST_LEVELS: usize = 64;
+pub(crate) const MOST_LEVELS: usize = 64;
 
 /// How many visits a reader may make.
-const MOST_VISITS: u64 = 1_000_000;
+pub(crate) const MOST_VISITS: u64 = 1_000_000;
 
 /// The number of a type of integers.
 fn number_of(ptype: PType) -> u8
