@@ -8,3 +8,4 @@ pub mod Sets
 pub mod Children
 pub mod FieldTables
 pub mod LayoutTables
+pub mod DtypeBack

@@ -1,6 +1,7 @@
 -- The table of a type as it is written, with the levels and visits that a reader makes of it.
-use Rattle.std.specs.Prelude.{ℕ, suc, ◌+◌, max, Bool, true, false, List, [], ◌∷◌, ◌++◌, Result}
+use Rattle.std.specs.Prelude.{◌≡◌, ℕ, suc, ◌+◌, max, Bool, true, false, List, [], ◌∷◌, ◌++◌, Result}
 use Rattle.std.specs.Int.{w8}
+use Rattle.std.specs.Str.{is_utf8}
 use Rattle.vx_tables.specs.Block.{Piece, number, texts, tables}
 use Rattle.vx_tables.specs.Counted.{text_cost}
 use Rattle.vx_data.specs.declared.ptype.PType.{PType}
@@ -68,6 +69,18 @@ abbrev mutual
   pub fields_visits : FieldList → ℕ
   fields_visits no_fields = 0
   fields_visits (field n d fs) = text_cost n + (visits_of d + fields_visits fs)
+
+-- names are texts
+abbrev mutual
+  pub HasTexts : Dtype → Type 0
+  HasTexts (bool nullable) = Unit {0}
+  HasTexts (int ptype nullable) = Unit {0}
+  HasTexts (text nullable) = Unit {0}
+  HasTexts (struct fs nullable) = HaveTexts fs
+
+  pub HaveTexts : FieldList → Type 0
+  HaveTexts no_fields = Unit {0}
+  HaveTexts (field n d fs) = (is_utf8 n ≡ true) × HasTexts d × HaveTexts fs
 
 unfoldable pub dtype_written : Dtype → Result (List ℕ) TableWriteError
 dtype_written d = written (levels_of d) (visits_of d) (pieces_of d)
