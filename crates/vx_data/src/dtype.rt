@@ -115,10 +115,3 @@ impl DType {
         }
     }
 }
-
-fn takes_shared<T: Send + Sync>(_value: &T) {}
-
-/// A type may be sent and shared between threads.
-pub fn dtype_is_shared(dtype: &DType) {
-    takes_shared(dtype);
-}

@@ -173,10 +173,3 @@ impl Layout {
         })
     }
 }
-
-fn takes_shared<T: Send + Sync>(_value: &T) {}
-
-/// A layout may be sent and shared between threads.
-pub fn layout_is_shared(layout: &Layout) {
-    takes_shared(layout);
-}

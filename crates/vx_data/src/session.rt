@@ -119,10 +119,3 @@ impl VortexSession {
         })
     }
 }
-
-fn takes_shared<T: Send + Sync>(_value: &T) {}
-
-/// A session may be sent and shared between threads.
-pub fn session_is_shared(session: &VortexSession) {
-    takes_shared(session);
-}

@@ -278,3 +278,36 @@ fn enables_ids(rt: HostRuntime) -> Result<(), Fail> {
     assert!(rt; set.get(Stat::Min).is_none());
     Ok(())
 }
+
+#[test]
+fn writes_tables(rt: HostRuntime) -> Result<(), Fail> {
+    let dtype = DType::Int(PType::I32, false);
+    assert_eq!(rt; dtype.write(rt.alloc())?.as_slice(), DTYPE.as_slice());
+    let layout = Layout::flat(rt.alloc(), dtype, 4, SegmentId(0))?;
+    let mut ids = Vec::new(rt.alloc());
+    ids.push(String::from_str(rt.alloc(), "vortex.flat")?)?;
+    assert_eq!(rt; layout.write(rt.alloc(), &ids)?.as_slice(), LAYOUT.as_slice());
+    let context = LayoutContext::new(Some(ids));
+    assert!(rt; context.permitted().is_some());
+    Ok(())
+}
+
+#[test]
+fn writes_64_levels_of_types(rt: HostRuntime) -> Result<(), Fail> {
+    let mut dtype = DType::Bool(true);
+    for _ in 0..63 {
+        dtype = within_struct(rt.alloc(), dtype)?;
+    }
+    let buffer = dtype.write(rt.alloc())?;
+    let read = DType::read(rt.alloc(), buffer.as_slice())?;
+    assert_eq!(rt; read.to_text(rt.alloc())?, dtype.to_text(rt.alloc())?);
+    let dtype = within_struct(rt.alloc(), dtype)?;
+    assert_eq!(rt; dtype.write(rt.alloc()).err(), Some(TableWriteError::TooDeep));
+    Ok(())
+}
+
+fn within_struct(alloc: Global, dtype: DType) -> Result<DType, Fail> {
+    let mut fields = Vec::new(alloc);
+    fields.push((String::from_str(alloc, "a")?, dtype))?;
+    Ok(DType::Struct(Fields::new(fields), false))
+}
