@@ -1,5 +1,5 @@
 -- A type that was written is read back.
-use Rattle.std.proofs.Common.{◌≡◌, ℕ, zero, suc, ◌+◌, ◌<◌, ◌≤◌, ◌^◌, max, Bool, true, false, List, [], ◌∷◌, length, map, Option, Some, None, refl, sym, ap, ap₂, subst, ◌∙◌, arith, add-zero, zero-add}
+use Rattle.std.proofs.Common.{◌≡◌, ℕ, zero, suc, ◌+◌, ◌<◌, ◌≤◌, ◌^◌, Bool, true, false, List, [], ◌∷◌, length, map, Option, Some, None, refl, sym, ap, subst, ◌∙◌, arith, add-zero, zero-add}
 use Rattle.std.specs.Prelude.{not, ◌==◌, nat_le, nat_lt, sum_by, slice_get, Ok}
 use Rattle.std.specs.Int.{w8}
 use Rattle.std.specs.Str.{is_utf8}
@@ -10,9 +10,9 @@ use Rattle.vx_tables.specs.declared.elements.Elements.TheVariants.{Offsets}
 use Rattle.vx_tables.specs.Block.{Piece, in_order, root_bytes}
 use Rattle.vx_tables.specs.Field.{Table, Vector, root, field, vector_field, text_of_vector, table_of_vector}
 use Rattle.vx_tables.specs.Counted.{Counted, ◌>>=◌, free, counted, pure, present, enter, each_from, each_text, each_table, or_empty, or_zero, vector_of, text_cost, allowed}
-use Rattle.vx_tables.specs.Standing.{Stands, ReadsBack, AreTexts, AreTables, IsTableAt, AreUtf8}
+use Rattle.vx_tables.specs.Standing.{Stands, ReadsBack, AreTexts, IsTableAt, AreUtf8}
 use Rattle.vx_tables.proofs.ReadAll.{reads_back, root_read, no_vector}
-use Rattle.vx_tables.proofs.Walked.{Gets, then_gets, gets-pure, gets-free, gets-counted, gets-enter, gets-present, gets-or_empty, gets-each_costs, gets-allowed, gets-bind}
+use Rattle.vx_tables.proofs.Walked.{Gets, then_gets, gets-pure, gets-free, gets-counted, gets-enter, gets-present, gets-each_costs, gets-allowed, gets-bind}
 use Rattle.vx_data.specs.declared.ptype.PType.{PType}
 use Rattle.vx_data.specs.declared.ptype.PType.TheVariants.{U8, U16, U32, U64, I8, I16, I32, I64}
 use Rattle.vx_data.specs.Dtype.{Dtype, bool, int, text, struct, FieldList, no_fields, field as with}
@@ -20,7 +20,7 @@ use Rattle.vx_data.specs.Layout.{dtypes_of}
 use Rattle.vx_data.specs.declared.table_write_error.TableWriteError.TheVariants.{TooDeep, TooManyTables, TableTooLong}
 use Rattle.vx_data.specs.Checks.{◌>>=◌ as ◌passes◌, ◌unless◌}
 use Rattle.vx_data.specs.Written.{written}
-use Rattle.vx_data.specs.DtypeTable.{dtype_checks, ptype_of_number, dtype_of, known_fields, dtype_with, paired, ptype_field, names_in, fields_in, dtype_at, dtype_table}
+use Rattle.vx_data.specs.DtypeTable.{dtype_checks, ptype_of_number, known_fields, dtype_with, paired, ptype_field, names_in, fields_in, dtype_at, dtype_table}
 use Rattle.vx_data.specs.DtypeWritten.{ptype_number, flag_number, head_pieces, names_of, pieces_of, all_pieces, levels_of, most_levels, visits_of, fields_visits, HasTexts, HaveTexts, dtype_written}
 
 -- ---- parts
@@ -135,7 +135,7 @@ names_gets b t l names v utf8 =
     let read : ℕ → Option (Counted (List ℕ)) = λ q. counted text_cost (text_of_vector b v.vector q) in
     let vector : Gets (vector_of b t 3 Offsets) (Some v.vector) 1 l = gets-counted _ (vector_field b t 3 Offsets) (Some v.vector) 1 l v.found (omega arith) in
     let each : (j : ℕ) (s : List ℕ) → slice_get names j ≡ Some s → Gets (read (0 + j)) s (text_cost s) l =
-        λ j s got. gets-counted text_cost (text_of_vector b v.vector (0 + j)) s (text_cost s) l (ap (text_of_vector b v.vector) (zero-add j) ∙ v.each j s got (utf8 j s got)) (omega arith) in
+    λ j s got. gets-counted text_cost (text_of_vector b v.vector (0 + j)) s (text_cost s) l (ap (text_of_vector b v.vector) (zero-add j) ∙ v.each j s got (utf8 j s got)) (omega arith) in
     let all : Gets (each_from read (length names) 0) names (sum_by text_cost names) l = gets-each_costs read text_cost names 0 l each in
     let texts : Gets (each_from read v.vector.count 0) names (sum_by text_cost names) l = subst (λ (c : ℕ). Gets (each_from read c 0) names (sum_by text_cost names) l) (sym v.as_many) all in
     then_gets (vector_of b t 3 Offsets) (or_empty (each_text b)) (Some v.vector) names (1 + sum_by text_cost names) vector texts (omega arith)
@@ -176,7 +176,7 @@ mutual
       let types : List (Option Dtype) = map (λ d. Some d) (dtypes_of fs) in
       let names = names_gets b t l (names_of fs) (reads.texts 3 (names_of fs) refl) (texts_are fs h) in
       let each : (j : ℕ) (ps : List Piece) → slice_get (all_pieces fs) j ≡ Some ps → in_order 0 ps ≡ true → IsTableAt b (table_of_vector b tables.vector (0 + j)) ps =
-          λ j ps got order. subst (λ (q : ℕ). IsTableAt b (table_of_vector b tables.vector q) ps) (sym (zero-add j)) (tables.each j ps got order) in
+      λ j ps got order. subst (λ (q : ℕ). IsTableAt b (table_of_vector b tables.vector q) ps) (sym (zero-add j)) (tables.each j ps got order) in
       let all = fields_gets b tables.vector l fs 0 each h (omega (arith, low)) in
       let inside : Gets (each_from read tables.vector.count 0) types (tables_visits fs) l = subst (λ (c : ℕ). Gets (each_from read c 0) types (tables_visits fs) l) (sym tables.as_many) all in
       let vector : Gets (vector_of b t 4 Offsets) (Some tables.vector) 1 l = gets-counted _ (vector_field b t 4 Offsets) (Some tables.vector) 1 l tables.found (omega arith) in
@@ -198,10 +198,10 @@ mutual
       let first = gets-enter (table_of_vector b v i) found.table (dtype_at (suc k) b) (Some d) (inner_of d) k here inner in
       let one : Gets (read i) (Some d) (visits_of d) (suc k) = record { all = first.all; found = first.found; value = first.value; few = omega (arith, first.few, inner_visits d); flat = omega (arith, first.flat) } in
       let others : (j : ℕ) (ps : List Piece) → slice_get (all_pieces fs) j ≡ Some ps → in_order 0 ps ≡ true → IsTableAt b (table_of_vector b v (i + 1 + j)) ps =
-          λ j ps got order. subst (λ (q : ℕ). IsTableAt b (table_of_vector b v q) ps) (omega arith) (each (suc j) ps got order) in
+      λ j ps got order. subst (λ (q : ℕ). IsTableAt b (table_of_vector b v q) ps) (omega arith) (each (suc j) ps got order) in
       let rest = fields_gets b v (suc k) fs (i + 1) others h.2 (omega (arith, low)) in
       let both_of : Gets (each_from read (length (all_pieces fs)) (i + 1) >>= (λ ys. pure (Some d ∷ ys))) (Some d ∷ types) (tables_visits fs + 0) (suc k) =
-          gets-bind (each_from read (length (all_pieces fs)) (i + 1)) (λ ys. pure (Some d ∷ ys)) types (Some d ∷ types) (tables_visits fs) 0 (suc k) rest (gets-pure (Some d ∷ types) 0 (suc k)) in
+      gets-bind (each_from read (length (all_pieces fs)) (i + 1)) (λ ys. pure (Some d ∷ ys)) types (Some d ∷ types) (tables_visits fs) 0 (suc k) rest (gets-pure (Some d ∷ types) 0 (suc k)) in
       let whole = gets-bind (read i) (λ z. each_from read (length (all_pieces fs)) (i + 1) >>= (λ ys. pure (z ∷ ys))) (Some d) (Some d ∷ types) (visits_of d) (tables_visits fs + 0) (suc k) one both_of in
       record { all = whole.all; found = whole.found; value = whole.value; few = omega (arith, whole.few); flat = whole.flat }
 

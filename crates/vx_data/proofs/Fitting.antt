@@ -1,13 +1,12 @@
 -- Rows that are fitted one after the other.
-use Rattle.std.proofs.Common.{◌≡◌, ℕ, suc, ◌+◌, ◌<◌, List, [], ◌∷◌, ◌++◌, length, map, get_or, drop, Option, Some, None, refl, sym, ap, ap₂, ◌∙◌, arith, append_assoc, add-one, drop-cons}
-use Rattle.std.proofs.lemmas.List.{append-nil}
+use Rattle.std.proofs.Common.{◌≡◌, ℕ, suc, List, [], ◌∷◌, ◌++◌, length, map, drop, Option, Some, None, refl, sym, ap, ◌∙◌}
 use Rattle.vx_data.specs.declared.layout_kind.LayoutKind.{LayoutKind}
 use Rattle.vx_data.specs.declared.layout_row.LayoutRow.{LayoutRow, out-LayoutRow}
 use Rattle.vx_data.specs.declared.dtype.DType.{DType}
 use Rattle.vx_data.specs.Dtype.{Dtype, dtype_view}
 use Rattle.vx_data.specs.Layout.{LayoutTree, numbers_of, dtype_of, child_dtypes}
-use Rattle.vx_data.specs.LayoutTable.{Row, row, rows_list, rows_count, row_view, kind_at, dtypes_for, shaped, before, fit, fit_each}
-use Rattle.vx_data.proofs.Rows.{row_is, next_row}
+use Rattle.vx_data.specs.LayoutTable.{row, rows_list, rows_count, row_view, kind_at, dtypes_for, shaped, before, fit, fit_each}
+use Rattle.vx_data.proofs.Rows.{row_is}
 use Rattle.vx_data.proofs.Fitted.{children_fit}
 
 rows_len : (rs : List LayoutRow) → rows_count (rows_list (map row_view rs)) ≡ length rs
@@ -22,7 +21,7 @@ asked_fit kinds o d rs n ds os k ts count asked made is some =
     let rows = rows_list (map row_view rs) in
     let as_many : n ≡ rows_count rows = count ∙ sym (rows_len rs) in
     let fits : fit_each kinds rows (dtypes_for o d (rows_count rows)) ≡ Some ts =
-        ap (λ q. fit_each kinds rows (dtypes_for o d q)) (sym as_many) ∙ ap (fit_each kinds rows) (sym asked) ∙ sym made ∙ some in
+    ap (λ q. fit_each kinds rows (dtypes_for o d q)) (sym as_many) ∙ ap (fit_each kinds rows) (sym asked) ∙ sym made ∙ some in
     children_fit kinds o k d rows ts is fits
 
 pub fit_is : (kinds : List (Option LayoutKind)) (r : LayoutRow) (o : Option LayoutKind) (d : Dtype) (rs : List LayoutRow) (n : ℕ) (ds : Option (List Dtype)) (os : Option (List LayoutTree))

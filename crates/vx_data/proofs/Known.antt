@@ -1,11 +1,11 @@
 -- The fields whose types are all known.
-use Rattle.std.proofs.Common.{◌≡◌, ℕ, suc, true, false, List, [], ◌∷◌, length, map, Option, Some, None, refl, ap, ◌∙◌, arith}
+use Rattle.std.proofs.Common.{◌≡◌, true, false, List, [], ◌∷◌, length, map, Option, Some, None, refl, ap, arith}
 use Rattle.std.specs.Prelude.{String, string_bytes, is_some}
 use Rattle.std.specs.Global.{Global}
 use Rattle.std.specs.List.{list_all, flat_map, zip}
 use Rattle.std.specs.Option.{option_map, option_to_list}
 use Rattle.vx_data.specs.declared.dtype.DType.{DType}
-use Rattle.vx_data.specs.Dtype.{Dtype, FieldList, dtype_view, pairs_view}
+use Rattle.vx_data.specs.Dtype.{FieldList, dtype_view, pairs_view}
 use Rattle.vx_data.specs.DtypeTable.{with_field, known_fields}
 
 pub known_zipped : (ns : List (String Global)) (ds : List (Option DType)) → length ns ≡ length ds → list_all (λ d. is_some d) ds ≡ true

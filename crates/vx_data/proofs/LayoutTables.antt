@@ -5,7 +5,7 @@ use Rattle.std.specs.Int.{w16, w64}
 use Rattle.std.specs.Str.{bytes_eq}
 use Rattle.std.proofs.lemmas.List.{length-map}
 use Rattle.vx_tables.specs.Block.{Piece, number, slot_count}
-use Rattle.vx_data.specs.Layout.{LayoutTree, node, Layouts, layouts_of, kind_of, rows_of, segments_of, children_of, tree_size, trees_size}
+use Rattle.vx_data.specs.Layout.{LayoutTree, node, layouts_of, kind_of, rows_of, segments_of, children_of, tree_size, trees_size}
 use Rattle.vx_data.specs.LayoutWritten.{kind_id, place_in, has_id, uses_ids, all_use, children_pieces, node_pieces, tree_pieces, trees_pieces, tree_levels, most_tree_levels, vector_visit, segments_visits, tree_visits, trees_visits}
 
 -- ---- ids and slots

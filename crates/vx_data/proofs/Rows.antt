@@ -1,10 +1,10 @@
 -- Rows of a layout's table, one after the other.
-use Rattle.std.proofs.Common.{◌≡◌, ℕ, suc, ◌+◌, ◌<◌, Bool, ◌&&◌, List, ◌∷◌, length, map, get_or, drop, Option, refl, sym, ap, ◌∙◌, rules, add-one, drop-cons}
+use Rattle.std.proofs.Common.{◌≡◌, ℕ, ◌+◌, ◌<◌, ◌&&◌, List, ◌∷◌, length, map, get_or, drop, Option, refl, ap, rules, add-one, drop-cons}
 use Rattle.std.proofs.lemmas.List.{length-map}
 use Rattle.vx_data.specs.declared.layout_kind.LayoutKind.{LayoutKind}
 use Rattle.vx_data.specs.declared.layout_row.LayoutRow.{LayoutRow, out-LayoutRow, the_lemmas}
 use Rattle.vx_data.specs.Layout.{numbers_of}
-use Rattle.vx_data.specs.LayoutTable.{Row, row, rows_list, row_view, row_known, rows_known}
+use Rattle.vx_data.specs.LayoutTable.{row, rows_list, row_view, row_known, rows_known}
 
 -- a row by its parts
 pub row_is : (r : LayoutRow) → row_view r ≡ row (out-LayoutRow r).encoding (out-LayoutRow r).row_count (numbers_of (out-LayoutRow r).segments.items) (rows_list (map row_view (out-LayoutRow r).children.items))

@@ -1,11 +1,10 @@
 -- Sets of statistics, one after the other.
-use Rattle.std.proofs.Common.{◌≡◌, ℕ, suc, ◌+◌, ◌<◌, List, [], ◌∷◌, ◌++◌, length, map, get_or, drop, Option, Some, None, refl, sym, ap, ap₂, ◌∙◌, arith, append_assoc, add-one, drop-cons}
-use Rattle.std.proofs.lemmas.List.{append-nil}
+use Rattle.std.proofs.Common.{◌≡◌, ℕ, List, [], ◌++◌, map, drop, Option, Some, None, refl}
 use Rattle.vx_data.specs.declared.dtype.DType.{DType}
-use Rattle.vx_data.specs.Dtype.{Dtype, dtype_view}
+use Rattle.vx_data.specs.Dtype.{dtype_view}
 use Rattle.vx_data.specs.Stats.{Stats}
 use Rattle.vx_data.specs.StatsEntry.{Entry}
-use Rattle.vx_data.specs.StatsTable.{stats_of, set_before, all_stats}
+use Rattle.vx_data.specs.StatsTable.{all_stats}
 
 -- what still comes
 abbrev pub rest_sets : List Entry → List DType → ℕ → Option (List Stats)

@@ -1,9 +1,9 @@
 -- Fields that are shared one after the other.
-use Rattle.std.proofs.Common.{◌≡◌, ℕ, suc, ◌+◌, ◌<◌, List, [], ◌∷◌, ◌++◌, length, get_or, drop, map, refl, sym, ap, ◌∙◌, arith, append_assoc, add-one, drop-cons}
+use Rattle.std.proofs.Common.{◌≡◌, ℕ, ◌+◌, ◌<◌, List, [], ◌∷◌, ◌++◌, length, get_or, drop, refl, sym, ap, ◌∙◌, append_assoc, add-one, drop-cons}
 use Rattle.std.specs.Prelude.{String, string_bytes}
 use Rattle.std.specs.Global.{Global}
 use Rattle.vx_data.specs.declared.dtype.DType.{DType}
-use Rattle.vx_data.specs.Dtype.{Dtype, FieldList, field, dtype_view, fields_of, pairs_view}
+use Rattle.vx_data.specs.Dtype.{field, dtype_view, pairs_view}
 
 pairs_same : (made rest : List (String Global × DType)) (x y : String Global × DType) → string_bytes x.0 ≡ string_bytes y.0 → dtype_view x.1 ≡ dtype_view y.1 → pairs_view (made ++ x ∷ rest) ≡ pairs_view (made ++ y ∷ rest)
 pairs_same [] rest x y name dtype = ap (λ n. field n (dtype_view x.1) (pairs_view rest)) name ∙ ap (λ d. field (string_bytes y.0) d (pairs_view rest)) dtype

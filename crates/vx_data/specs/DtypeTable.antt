@@ -1,5 +1,5 @@
 -- The table of a type, and the checks on it. A value of the walk is a type where all of its kinds are known.
-use Rattle.std.specs.Prelude.{ℕ, zero, suc, Bool, not, ◌==◌, if◌then◌else◌, List, [], ◌∷◌, length, Option, Some, None, Result, Ok, Err}
+use Rattle.std.specs.Prelude.{ℕ, zero, suc, Bool, not, ◌==◌, if◌then◌else◌, List, [], ◌∷◌, length, Option, Some, None, Result}
 use Rattle.std.specs.Int.{w8}
 use Rattle.std.specs.Option.{option_map}
 use Rattle.vx_tables.specs.declared.elements.Elements.TheVariants.{Offsets}

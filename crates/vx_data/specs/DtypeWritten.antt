@@ -1,5 +1,5 @@
 -- The table of a type as it is written, with the levels and visits that a reader makes of it.
-use Rattle.std.specs.Prelude.{◌≡◌, ℕ, suc, ◌+◌, max, Bool, true, false, List, [], ◌∷◌, ◌++◌, Result}
+use Rattle.std.specs.Prelude.{◌≡◌, ℕ, ◌+◌, max, Bool, true, false, List, [], ◌∷◌, ◌++◌, Result}
 use Rattle.std.specs.Int.{w8}
 use Rattle.std.specs.Str.{is_utf8}
 use Rattle.vx_tables.specs.Block.{Piece, number, texts, tables}

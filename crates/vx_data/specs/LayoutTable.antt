@@ -1,5 +1,5 @@
 -- The table of a layout, and the checks on it: all of its grammar, then the ids that the tree uses, then the fit.
-use Rattle.std.specs.Prelude.{ℕ, zero, suc, Bool, true, ◌&&◌, nat_lt, if◌then◌else◌, List, [], ◌∷◌, length, map, codes, slice_get, Option, Some, None, is_some, Result, Ok, Err}
+use Rattle.std.specs.Prelude.{ℕ, zero, suc, Bool, true, ◌&&◌, nat_lt, if◌then◌else◌, List, [], ◌∷◌, length, map, codes, slice_get, Option, Some, None, is_some, Result}
 use Rattle.std.specs.Int.{w16, w64}
 use Rattle.std.specs.Str.{bytes_eq}
 use Rattle.vx_tables.specs.declared.elements.Elements.TheVariants.{Numbers, Offsets}

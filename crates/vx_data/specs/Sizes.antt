@@ -1,5 +1,5 @@
 -- Each layout is smaller than the tree that it is in.
-use Rattle.std.specs.Prelude.{ℕ, ◌+◌, ◌≤◌, List, [], ◌∷◌}
+use Rattle.std.specs.Prelude.{◌+◌, ◌≤◌, List, [], ◌∷◌}
 use Rattle.std.proofs.Common.{arith}
 use denote.Param.Weighed.{most}
 use Rattle.vx_data.specs.Layout.{LayoutTree, layouts_of, tree_size, trees_size}

@@ -1,5 +1,5 @@
 -- The statistics of a column that are known, as plain data.
-use Rattle.std.specs.Prelude.{Option, Some, None}
+use Rattle.std.specs.Prelude.{Option, None}
 use Rattle.std.specs.Option.{option_map}
 use Rattle.vx_data.specs.declared.scalar.Scalar.{Scalar}
 use Rattle.vx_data.specs.declared.stats_set.Stat.{Stat}

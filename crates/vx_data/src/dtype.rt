@@ -42,10 +42,7 @@ impl Fields {
     }
 
     /// These fields, with room for more owners.
-    pub(crate) fn shared(
-        alloc: Global,
-        fields: Vec<(String, DType)>,
-    ) -> Result<Fields, AllocError>
+    pub(crate) fn shared(alloc: Global, fields: Vec<(String, DType)>) -> Result<Fields, AllocError>
         ensures { IfOk result (λ shared. fields_view shared ≡ pairs_view fields.items) }
     {
         Ok(Fields {

@@ -11,8 +11,11 @@ use std::alloc::{AllocError, Global};
 use vx_tables::WalkError;
 
 pub(crate) const BOOL: u8 = 1;
+
 pub(crate) const INTEGER: u8 = 2;
+
 pub(crate) const TEXT: u8 = 3;
+
 pub(crate) const STRUCT: u8 = 4;
 
 /// The type of integers with this number.

@@ -74,10 +74,7 @@ fn struct_of(
 /// The tables of fields.
 #[cycle(writing)]
 #[tactic(auto, using(crate::proofs::FieldTables::next_pieces))]
-fn all_tables(
-    alloc: Global,
-    fields: &[(String, DType)],
-) -> Result<Vec<TableWriter>, AllocError>
+fn all_tables(alloc: Global, fields: &[(String, DType)]) -> Result<Vec<TableWriter>, AllocError>
     ensures { IfOk result (λ tables. tables.items ≡ all_pieces (pairs_view fields.now)) }
 {
     let mut tables = Vec::new(alloc);

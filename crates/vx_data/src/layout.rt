@@ -85,21 +85,31 @@ impl Layout {
         ensures { IfOk result (λ layout. layout ≡ node LayoutKind.Flat (dtype_view dtype) row_count (segment.0 ∷ []) no_layouts) }
     {
         let segments = vec![in alloc; segment]?;
-        Layout::made(alloc, LayoutKind::Flat, dtype, row_count, segments, Vec::new(alloc))
+        Layout::made(
+            alloc,
+            LayoutKind::Flat,
+            dtype,
+            row_count,
+            segments,
+            Vec::new(alloc),
+        )
     }
 
     /// The layout of the rows of its children, one behind the other. Each has this type.
-    pub fn chunked(
-        alloc: Global,
-        dtype: DType,
-        children: Vec<Layout>,
-    ) -> Result<Layout, AllocError>
+    pub fn chunked(alloc: Global, dtype: DType, children: Vec<Layout>) -> Result<Layout, AllocError>
         requires dtypes { replicate (length children.items) (dtype_view dtype) ≡ map dtype_of children.items }
         requires rows { rows_sum children.items < 2 ^ 64 }
         ensures { IfOk result (λ layout. layout ≡ node LayoutKind.Chunked (dtype_view dtype) (rows_sum children.items) [] (layouts_of children.items)) }
     {
         let rows = sum_of(&children);
-        Layout::made(alloc, LayoutKind::Chunked, dtype, rows, Vec::new(alloc), children)
+        Layout::made(
+            alloc,
+            LayoutKind::Chunked,
+            dtype,
+            rows,
+            Vec::new(alloc),
+            children,
+        )
     }
 
     /// The layout of the rows of a struct, by its fields.
@@ -112,7 +122,14 @@ impl Layout {
         requires { Fits LayoutKind.Struct (dtype_view dtype) row_count [] children.items }
         ensures { IfOk result (λ layout. layout ≡ node LayoutKind.Struct (dtype_view dtype) row_count [] (layouts_of children.items)) }
     {
-        Layout::made(alloc, LayoutKind::Struct, dtype, row_count, Vec::new(alloc), children)
+        Layout::made(
+            alloc,
+            LayoutKind::Struct,
+            dtype,
+            row_count,
+            Vec::new(alloc),
+            children,
+        )
     }
 
     /// How the rows are kept.

@@ -99,12 +99,7 @@ fn all_have(row_count: u64, children: &[Layout]) -> bool
 
 /// Whether a layout of these parts has the rows and segments of its kind.
 #[tactic(auto, using(crate::proofs::Rows::lengths))]
-fn has_shape(
-    kind: LayoutKind,
-    row_count: u64,
-    segments: &[SegmentId],
-    children: &[Layout],
-) -> bool
+fn has_shape(kind: LayoutKind, row_count: u64, segments: &[SegmentId], children: &[Layout]) -> bool
     ensures { result ≡ shape_holds kind row_count (numbers_of segments.now) children.now }
 {
     match kind {

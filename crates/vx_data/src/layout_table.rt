@@ -72,11 +72,7 @@ fn push_children(
 }
 
 /// Adds the numbers of segments, where there are any.
-fn push_segments(
-    alloc: Global,
-    table: &mut TableWriter,
-    segments: &[u32],
-) -> Result<(), AllocError>
+fn push_segments(alloc: Global, table: &mut TableWriter, segments: &[u32]) -> Result<(), AllocError>
     requires { slot_count table.old ≤ 4 }
     ensures { OnOk result (table.new ≡ table.old ++ segments_pieces segments.now) }
 {

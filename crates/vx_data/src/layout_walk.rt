@@ -118,11 +118,7 @@ fn read_in(
 
 /// The layout that a root spells, of so many ids.
 #[tactic(auto, using(vx_tables::proofs::Walk::seen_steps), unfolding(crate::specs::LayoutTable::layout_table, vx_tables::specs::Counted::allowed))]
-pub(crate) fn read_layout(
-    alloc: Global,
-    specs: usize,
-    bytes: &[u8],
-) -> Result<LayoutRow, WalkError>
+pub(crate) fn read_layout(alloc: Global, specs: usize, bytes: &[u8]) -> Result<LayoutRow, WalkError>
     ensures { Reads row_view result (allowed (layout_table specs bytes.now)) }
 {
     let mut visits = Visits::new();

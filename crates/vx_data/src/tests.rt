@@ -103,7 +103,11 @@ fn of_kind(alloc: Global, kind: u8) -> Result<TableWriter, Fail> {
 #[test]
 fn looks_at_fields_of_every_kind(rt: HostRuntime) -> Result<(), Fail> {
     // The kind of the table, that of its field, and the answer.
-    let rows = [(4, 3, "{a%20b:text}"), (1, 3, "bool"), (1, 9, "Unsupported")];
+    let rows = [
+        (4, 3, "{a%20b:text}"),
+        (1, 3, "bool"),
+        (1, 9, "Unsupported"),
+    ];
     for (kind, inner, answer) in rows {
         let table = with_field(rt.alloc(), kind, of_kind(rt.alloc(), inner)?)?;
         let buffer = table.finish(rt.alloc())?;
@@ -126,7 +130,10 @@ fn reads_64_levels_of_types(rt: HostRuntime) -> Result<(), Fail> {
         table = with_field(rt.alloc(), 4, table)?;
     }
     let buffer = table.finish(rt.alloc())?;
-    assert_eq!(rt; told_dtype(rt.alloc(), buffer.as_slice())?.as_str(), "BadTable");
+    assert_eq!(rt;
+        told_dtype(rt.alloc(), buffer.as_slice())?.as_str(),
+        "BadTable"
+    );
     Ok(())
 }
 
@@ -192,7 +199,10 @@ fn makes_layouts(rt: HostRuntime) -> Result<(), Fail> {
     let chunked = Layout::chunked(rt.alloc(), DType::Bool(false), children)?;
     assert_eq!(rt; chunked.row_count(), 3);
     let types = chunked.child_types(rt.alloc())?;
-    assert_eq!(rt; format!(in rt.alloc(); "{types:?}")?.as_str(), "[Chunk { index: 0, first_row: 0 }]");
+    assert_eq!(rt;
+        format!(in rt.alloc(); "{types:?}")?.as_str(),
+        "[Chunk { index: 0, first_row: 0 }]"
+    );
     let share = chunked.share(rt.alloc())?;
     assert_eq!(rt; share.children().len(), 1);
     Ok(())
@@ -200,19 +210,29 @@ fn makes_layouts(rt: HostRuntime) -> Result<(), Fail> {
 
 #[test]
 fn tells_types_and_texts(rt: HostRuntime) -> Result<(), Fail> {
-    let rows = [("", "%"), ("a_B.c-9", "a_B.c-9"), ("\u{e9} /", "%C3%A9%20%2F")];
+    let rows = [
+        ("", "%"),
+        ("a_B.c-9", "a_B.c-9"),
+        ("\u{e9} /", "%C3%A9%20%2F"),
+    ];
     for (text, answer) in rows {
         assert_eq!(rt; quote(rt.alloc(), text)?.as_str(), answer);
     }
     let mut fields = Vec::new(rt.alloc());
-    fields.push((String::from_str(rt.alloc(), "id")?, DType::Int(PType::U64, false)))?;
+    fields.push((
+        String::from_str(rt.alloc(), "id")?,
+        DType::Int(PType::U64, false),
+    ))?;
     fields.push((String::new(rt.alloc()), DType::Text(true)))?;
     let dtype = DType::Struct(Fields::new(fields), true);
     let share = dtype.share(rt.alloc())?;
     assert_eq!(rt; share.to_text(rt.alloc())?.as_str(), "{id:u64,%:text?}?");
     assert!(rt; share.is_nullable());
     let low = Scalar::Int(-170141183460469231731687303715884105728);
-    assert_eq!(rt; low.to_text(rt.alloc())?.as_str(), "-170141183460469231731687303715884105728");
+    assert_eq!(rt;
+        low.to_text(rt.alloc())?.as_str(),
+        "-170141183460469231731687303715884105728"
+    );
     assert_eq!(rt; Scalar::Bool(true).to_text(rt.alloc())?.as_str(), "true");
     Ok(())
 }
@@ -237,7 +257,11 @@ fn statistics(alloc: Global, min: &[u8], count: usize) -> Result<TableWriter, Fa
 fn reads_statistics(rt: HostRuntime) -> Result<(), Fail> {
     let dtype = DType::Int(PType::I16, false);
     let rows: [(&[u8], usize, &str); 4] = [
-        (&[0xfe, 0xff], 1, "Some((Int(-2), Inexact)) None Some((Int(1), Exact))"),
+        (
+            &[0xfe, 0xff],
+            1,
+            "Some((Int(-2), Inexact)) None Some((Int(1), Exact))",
+        ),
         (&[0xfe, 0xff], 2, "StatsCount"),
         (&[0xfe], 1, "BadTable"),
         (&[0xfe], 0, "StatsCount"),
@@ -256,7 +280,11 @@ fn reads_statistics(rt: HostRuntime) -> Result<(), Fail> {
 fn told_sets(alloc: Global, sets: &[StatsSet]) -> Result<String, Fail> {
     match sets {
         [set] => {
-            let (min, max, nulls) = (set.get(Stat::Min), set.get(Stat::Max), set.get(Stat::NullCount));
+            let (min, max, nulls) = (
+                set.get(Stat::Min),
+                set.get(Stat::Max),
+                set.get(Stat::NullCount),
+            );
             Ok(format!(in alloc; "{min:?} {max:?} {nulls:?}")?)
         }
         _ => Ok(String::new(alloc)),
@@ -286,7 +314,10 @@ fn writes_tables(rt: HostRuntime) -> Result<(), Fail> {
     let layout = Layout::flat(rt.alloc(), dtype, 4, SegmentId(0))?;
     let mut ids = Vec::new(rt.alloc());
     ids.push(String::from_str(rt.alloc(), "vortex.flat")?)?;
-    assert_eq!(rt; layout.write(rt.alloc(), &ids)?.as_slice(), LAYOUT.as_slice());
+    assert_eq!(rt;
+        layout.write(rt.alloc(), &ids)?.as_slice(),
+        LAYOUT.as_slice()
+    );
     let context = LayoutContext::new(Some(ids));
     assert!(rt; context.permitted().is_some());
     Ok(())
@@ -302,7 +333,10 @@ fn writes_64_levels_of_types(rt: HostRuntime) -> Result<(), Fail> {
     let read = DType::read(rt.alloc(), buffer.as_slice())?;
     assert_eq!(rt; read.to_text(rt.alloc())?, dtype.to_text(rt.alloc())?);
     let dtype = within_struct(rt.alloc(), dtype)?;
-    assert_eq!(rt; dtype.write(rt.alloc()).err(), Some(TableWriteError::TooDeep));
+    assert_eq!(rt;
+        dtype.write(rt.alloc()).err(),
+        Some(TableWriteError::TooDeep)
+    );
     Ok(())
 }
 

@@ -1,8 +1,6 @@
-use Rattle.std.proofs.Common.{◌≡◌, ◌∙◌, true, false, Some, sym, ap, rules}
+use Rattle.std.proofs.Common.{◌≡◌, true, false, sym}
 use Rattle.std.specs.Prelude.{is_some}
 use Rattle.std.specs.List.{list_all}
-use Rattle.std.proofs.lemmas.Grind.{common_steps}
-use Rattle.vx_data.specs.Dtype.{pairs_view}
 use Rattle.vx_data.proofs.Known.{known_zipped, known_not}
 use Rattle.vx_data.proofs.dtype_parts.fields_of.Goals as goal
 

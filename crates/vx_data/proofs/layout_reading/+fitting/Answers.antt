@@ -1,5 +1,4 @@
-use Rattle.std.proofs.Common.{◌≡◌, ◌∙◌, ◌<◌, length, arith, sym, ap, Some, None}
-use Rattle.std.proofs.lemmas.List.{drop_all}
+use Rattle.std.proofs.Common.{◌≡◌, ◌∙◌, length, arith, sym}
 use Rattle.vx_data.proofs.Fitted.{no_dtypes}
 use Rattle.vx_data.proofs.Fitting.{asked_fit, fit_is, uneven}
 use Rattle.vx_data.proofs.layout_reading.+fitting.Goals as goal

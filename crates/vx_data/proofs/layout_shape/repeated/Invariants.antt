@@ -1,4 +1,4 @@
-use Rattle.std.proofs.Common.{◌≡◌, ◌++◌, ◌-◌, map, replicate}
+use Rattle.std.proofs.Common.{◌≡◌, map, replicate}
 use Rattle.vx_data.specs.Dtype.{dtype_view}
 use Rattle.vx_data.proofs.layout_shape.repeated.Given as goal
 
