@@ -6,11 +6,11 @@ ghost use Rattle.vx_footer.specs.Opening.{ptype_of_number, ptype_of, is_flat as 
 use crate::marker::postscript_of;
 use crate::postscript::tables_of;
 use crate::table::{DTypeTable, FooterTable, LayoutTable, Locator, Tables};
-use crate::table_error::TableError;
 use crate::table_reading::{read_dtype, read_footer, read_layout};
 use crate::{Footer, OpenError, PType, SegmentSpecs, Which};
 use std::alloc::Global;
 use vx_base::{Alignment, SegmentId, SegmentSpec};
+use vx_tables::WalkError;
 
 /// The kind of an integer dtype.
 pub(crate) const INTEGER: u8 = 2;
@@ -183,8 +183,8 @@ fn footer_in(
 {
     let footer = match read_footer(alloc, footer_bytes) {
         Ok(footer) => footer,
-        Err(TableError::BadTable) => return Err(OpenError::BadTable(Which::Footer)),
-        Err(TableError::OutOfMemory) => return Err(OpenError::OutOfMemory),
+        Err(WalkError::BadTable) => return Err(OpenError::BadTable(Which::Footer)),
+        Err(WalkError::OutOfMemory) => return Err(OpenError::OutOfMemory),
     };
     let (layout, segment) = layout_and_segment_of(&footer, size, layout_bytes)?;
     Ok(Footer {

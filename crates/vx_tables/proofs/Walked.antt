@@ -1,8 +1,9 @@
 -- What a walk over a table gives where each step gives something: a value, at most so many visits, and at
 -- most so many levels.
 use Rattle.std.proofs.Common.{◌≡◌, ℕ, suc, ◌+◌, ◌*◌, ◌≤◌, max, true, List, [], ◌∷◌, length, Option, Some, None, refl, ap, ◌∙◌, arith, add-zero}
-use Rattle.std.specs.Prelude.{nat_le, slice_get}
+use Rattle.std.specs.Prelude.{nat_le, slice_get, sum_by}
 use Rattle.std.proofs.lemmas.Bool.{le-leb}
+use Rattle.std.proofs.lemmas.List.Sums.{sum_by-cons}
 use Rattle.vx_tables.specs.Counted.{Counted, ◌>>=◌, pure, counted, free, deeper, within, enter, enter_optional, present, each_from, or_empty, allowed}
 use Rattle.vx_tables.specs.Field.{Table, Vector}
 
@@ -87,6 +88,19 @@ gets-each {A = A} read (x ∷ xs) i n l each =
     let both_of : Gets (each_from read (length xs) (i + 1) >>= (λ ys. pure (x ∷ ys))) (x ∷ xs) (length xs * n + 0) l = gets-bind (each_from read (length xs) (i + 1)) (λ ys. pure (x ∷ ys)) xs (x ∷ xs) (length xs * n) 0 l rest (gets-pure (x ∷ xs) 0 l) in
     let whole = gets-bind (read i) (λ z. each_from read (length xs) (i + 1) >>= (λ ys. pure (z ∷ ys))) x (x ∷ xs) n (length xs * n + 0) l first both_of in
     record { all = whole.all; found = whole.found; value = whole.value; few = omega (arith, whole.few); flat = whole.flat }
+
+-- the elements of a vector, each of which takes at most its own cost
+pub gets-each_costs : {A : Type 0} (read : ℕ → Option (Counted A)) (cost : A → ℕ) (xs : List A) (i l : ℕ) → ((j : ℕ) (x : A) → slice_get xs j ≡ Some x → Gets (read (i + j)) x (cost x) l)
+    → Gets (each_from read (length xs) i) xs (sum_by cost xs) l
+unfolding each_from
+gets-each_costs read cost [] i l each = gets-pure [] 0 l
+gets-each_costs {A = A} read cost (x ∷ xs) i l each =
+    let first : Gets (read i) x (cost x) l = rw (← add-zero i) (each 0 x refl) in
+    let others : (j : ℕ) (y : A) → slice_get xs j ≡ Some y → Gets (read (i + 1 + j)) y (cost y) l = λ j y got. let next : i + suc j ≡ i + 1 + j = omega arith in rw (← next) (each (suc j) y got) in
+    let rest = gets-each_costs read cost xs (i + 1) l others in
+    let both_of : Gets (each_from read (length xs) (i + 1) >>= (λ ys. pure (x ∷ ys))) (x ∷ xs) (sum_by cost xs + 0) l = gets-bind (each_from read (length xs) (i + 1)) (λ ys. pure (x ∷ ys)) xs (x ∷ xs) (sum_by cost xs) 0 l rest (gets-pure (x ∷ xs) 0 l) in
+    let whole = gets-bind (read i) (λ z. each_from read (length xs) (i + 1) >>= (λ ys. pure (z ∷ ys))) x (x ∷ xs) (cost x) (sum_by cost xs + 0) l first both_of in
+    record { all = whole.all; found = whole.found; value = whole.value; few = omega (arith, whole.few, sum_by-cons cost x xs); flat = whole.flat }
 
 pub gets-allowed : {A : Type 0} (r : Option (Counted A)) (x : A) (n l : ℕ) → Gets r x n l → n ≤ 1000000 → l ≤ 64 → allowed r ≡ Some x
 unfolding within
