@@ -18,7 +18,7 @@ use Rattle.vx_data.specs.declared.ptype.PType.TheVariants.{U8, U16, U32, U64, I8
 use Rattle.vx_data.specs.Dtype.{Dtype, bool, int, text, struct, FieldList, no_fields, field as with}
 use Rattle.vx_data.specs.Layout.{dtypes_of}
 use Rattle.vx_data.specs.declared.table_write_error.TableWriteError.TheVariants.{TooDeep, TooManyTables, TableTooLong}
-use Rattle.vx_data.specs.Checks.{◌>>=◌ as ◌passes◌, ◌unless◌}
+use Rattle.vx_base.specs.Checks.{◌>>=◌ as ◌passes◌, ◌unless◌}
 use Rattle.vx_data.specs.Written.{written}
 use Rattle.vx_data.specs.DtypeTable.{dtype_checks, ptype_of_number, known_fields, dtype_with, paired, ptype_field, names_in, fields_in, dtype_at, dtype_table}
 use Rattle.vx_data.specs.DtypeWritten.{ptype_number, flag_number, head_pieces, names_of, pieces_of, all_pieces, levels_of, most_levels, visits_of, fields_visits, HasTexts, HaveTexts, dtype_written}

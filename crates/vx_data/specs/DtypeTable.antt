@@ -9,7 +9,7 @@ use Rattle.vx_data.specs.declared.ptype.PType.{PType}
 use Rattle.vx_data.specs.declared.ptype.PType.TheVariants.{U8, U16, U32, U64, I8, I16, I32, I64}
 use Rattle.vx_data.specs.declared.data_error.DataError.{DataError}
 use Rattle.vx_data.specs.declared.data_error.DataError.TheVariants.{BadTable, Unsupported}
-use Rattle.vx_data.specs.Checks.{◌>>=◌ as ◌passes◌, ◌lacking◌}
+use Rattle.vx_base.specs.Checks.{◌>>=◌ as ◌passes◌, ◌lacking◌}
 use Rattle.vx_data.specs.Dtype.{Dtype, bool, int, text, struct, FieldList, no_fields, field as with}
 
 -- ---- the parts of a type

@@ -11,7 +11,7 @@ use Rattle.vx_data.specs.declared.layout_row.LayoutRow.{LayoutRow, fold-LayoutRo
 use Rattle.vx_data.specs.declared.layout_row.LayoutRow.TheOpen.{LayoutRow-F}
 use Rattle.vx_data.specs.declared.data_error.DataError.{DataError}
 use Rattle.vx_data.specs.declared.data_error.DataError.TheVariants.{BadTable, UnknownEncoding}
-use Rattle.vx_data.specs.Checks.{◌>>=◌ as ◌passes◌, ◌unless◌, ◌lacking◌}
+use Rattle.vx_base.specs.Checks.{◌>>=◌ as ◌passes◌, ◌unless◌, ◌lacking◌}
 use Rattle.vx_data.specs.Dtype.{Dtype}
 use Rattle.vx_data.specs.Layout.{LayoutTree, node, layouts_of, numbers_of, child_dtypes, has_shape}
 

@@ -1,4 +1,3 @@
-pub mod Checks
 pub mod Refusing
 pub mod Dtype
 pub mod DtypeTable

@@ -12,7 +12,7 @@ use Rattle.vx_data.specs.declared.stats_set.Precision.{Precision}
 use Rattle.vx_data.specs.declared.stats_set.Precision.TheVariants.{Exact, Inexact}
 use Rattle.vx_data.specs.declared.data_error.DataError.{DataError}
 use Rattle.vx_data.specs.declared.data_error.DataError.TheVariants.{BadTable, StatsCount}
-use Rattle.vx_data.specs.Checks.{◌>>=◌ as ◌passes◌, ◌unless◌, ◌lacking◌}
+use Rattle.vx_base.specs.Checks.{◌>>=◌ as ◌passes◌, ◌unless◌, ◌lacking◌}
 use Rattle.vx_data.specs.Dtype.{Dtype, bool, int, text, struct}
 use Rattle.vx_data.specs.Layout.{dtypes_of}
 use Rattle.vx_data.specs.Scalar.{Value, flag, number, words}

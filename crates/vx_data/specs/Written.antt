@@ -1,7 +1,7 @@
 -- What writing a table gives: its bytes, or the first limit that they would pass.
 use Rattle.std.specs.Prelude.{◌≡◌, ℕ, ◌-◌, ◌^◌, nat_le, nat_lt, if◌then◌else◌, List, length, Option, Some, None, Result, Ok, Err}
 use Rattle.vx_tables.specs.Block.{Piece, root_bytes}
-use Rattle.vx_data.specs.Checks.{◌>>=◌, ◌unless◌}
+use Rattle.vx_base.specs.Checks.{◌>>=◌, ◌unless◌}
 use Rattle.vx_data.specs.declared.table_write_error.TableWriteError.{TableWriteError}
 use Rattle.vx_data.specs.declared.table_write_error.TableWriteError.TheVariants.{TooDeep, TooManyTables, TableTooLong, OutOfMemory}
 

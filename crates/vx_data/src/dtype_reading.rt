@@ -4,7 +4,7 @@ ghost use Rattle.std.specs.Result.{result_ok};
 ghost use Rattle.std.specs.Option.{option_map};
 ghost use Rattle.vx_tables.specs.Counted.{within, allowed, each_text, each_table};
 ghost use Rattle.vx_tables.specs.Walking.{Walks, Reads};
-ghost use Rattle.vx_data.specs.Checks.{Gives};
+ghost use Rattle.vx_base.specs.Checks.{Gives};
 ghost use Rattle.vx_data.specs.Refusing.{Fails};
 ghost use Rattle.vx_data.specs.Dtype.{dtype_view};
 ghost use Rattle.vx_data.specs.DtypeTable.{ptype_field, dtype_at, names_in, fields_in, dtype_table, dtype_checks};

@@ -1,6 +1,6 @@
 //! Writes the table of a type.
 ghost use Rattle.std.specs.Prelude.{◌≡◌, IfOk, List, ℕ, true, map, nat_le, string_bytes};
-ghost use Rattle.vx_data.specs.Checks.{Gives};
+ghost use Rattle.vx_base.specs.Checks.{Gives};
 ghost use Rattle.vx_data.specs.Dtype.{dtype_view, fields_view, pairs_view};
 ghost use Rattle.vx_data.specs.Written.{FailsToWrite, left_of, root_written};
 ghost use Rattle.vx_data.specs.DtypeWritten.{ptype_number, head_pieces, names_of, pieces_of, struct_pieces, all_pieces, levels_of, most_levels, visits_of, fields_visits, dtype_written};

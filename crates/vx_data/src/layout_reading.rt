@@ -1,7 +1,7 @@
 //! Reads a layout from its table.
 ghost use Rattle.std.specs.Prelude.{◌≡◌, IfOk, map, string_bytes, Some};
 ghost use Rattle.std.specs.Option.{option_map};
-ghost use Rattle.vx_data.specs.Checks.{Gives};
+ghost use Rattle.vx_base.specs.Checks.{Gives};
 ghost use Rattle.vx_data.specs.Refusing.{Fails};
 ghost use Rattle.vx_data.specs.Dtype.{dtype_view};
 ghost use Rattle.vx_data.specs.LayoutTable.{row_view, rows_list, fit as fit_row, fit_each as fit_rows, layout_checks};

@@ -1,6 +1,6 @@
 //! Writes the table of a layout, within what a reader allows.
 ghost use Rattle.std.specs.Prelude.{◌≡◌, ◌≤◌, ◌+◌, true, length, map, nat_le, string_bytes};
-ghost use Rattle.vx_data.specs.Checks.{Gives};
+ghost use Rattle.vx_base.specs.Checks.{Gives};
 ghost use Rattle.vx_data.specs.Layout.{layouts_of, numbers_of};
 ghost use Rattle.vx_data.specs.Written.{FailsToWrite, left_of};
 ghost use Rattle.vx_data.specs.LayoutWritten.{uses_ids, tree_levels, most_tree_levels, vector_visit, segments_visits, tree_visits, trees_visits, layout_written};

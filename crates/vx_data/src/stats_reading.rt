@@ -3,7 +3,7 @@ ghost use Rattle.std.specs.Prelude.{◌≡◌, ◌==◌, IfOk, length, map, Some
 ghost use Rattle.std.specs.Option.{option_map};
 ghost use Rattle.vx_tables.specs.Counted.{within, allowed, each_table};
 ghost use Rattle.vx_tables.specs.Walking.{Walks, Reads};
-ghost use Rattle.vx_data.specs.Checks.{Gives};
+ghost use Rattle.vx_base.specs.Checks.{Gives};
 ghost use Rattle.vx_data.specs.Refusing.{Fails};
 ghost use Rattle.vx_data.specs.Dtype.{dtype_view};
 ghost use Rattle.vx_data.specs.Stats.{kept_view};
