@@ -2,6 +2,7 @@
 #![tactic(auto)]
 
 mod drive;
+mod memory;
 mod queue;
 mod reading;
 mod reply;
@@ -13,6 +14,7 @@ mod span;
 mod step;
 mod steps;
 
+pub use memory::serve_in_memory;
 pub use reply::Reply;
 pub use served::{ServeError, Served};
 pub use serving::serve;

@@ -140,7 +140,6 @@ abbrev pub Fails : {A : Type 0} → SerializeError → Result A SerializeError �
 Fails OutOfMemory answer = Unit {0}
 Fails e answer = answer ≡ Err e
 
-
 -- the bytes of one buffer after the other
 abbrev pub joined : List Buffer → List ℕ
 joined buffers = flat_map (λ b. b.bytes) buffers
