@@ -8,6 +8,8 @@ mod demo_tests;
 mod failure;
 mod input;
 mod memory;
+#[cfg(test)]
+mod real_tests;
 mod render;
 mod repeats;
 mod run;
