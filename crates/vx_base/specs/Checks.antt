@@ -1,5 +1,5 @@
 -- Checks in order: the first that fails names the refusal.
-use Rattle.std.specs.Prelude.{◌≡◌, Bool, false, Option, Some, None, Result, Ok, Err, if◌then◌else◌}
+use Rattle.std.specs.Prelude.{◌≡◌, Bool, Option, Some, None, Result, Ok, Err, if◌then◌else◌}
 
 -- what comes after a check, which is looked at only where the check passes
 infixl 10 ◌>>=◌
@@ -18,7 +18,7 @@ abbrev pub ◌lacking◌ : {A E : Type 0} → E → Option A → Result A E
 e lacking None = Err e
 e lacking (Some x) = Ok x
 
--- what a function returned, seen by a view, is what a definition gives, unless memory ran out
-abbrev pub Gives : {X A E : Type 0} → (E → Bool) → (X → A) → Result X E → Result A E → Type 0
-Gives is_memory view (Ok x) answer = answer ≡ Ok (view x)
-Gives is_memory view (Err e) answer = is_memory e ≡ false → answer ≡ Err e
+-- what a function returned, seen by a view, is what a definition gives; `fails` says what an error tells
+abbrev pub Gives : {X A E : Type 0} → (E → Result A E → Type 0) → (X → A) → Result X E → Result A E → Type 0
+Gives fails view (Ok x) answer = answer ≡ Ok (view x)
+Gives fails view (Err e) answer = fails e answer

@@ -24,7 +24,13 @@ use Rattle.vx_file.proofs.Histories.{register-moves, poll-moves}
 
 pub answering-starts : (w : World) (script : List Step) (start : ReaderState) (k : Kept) → Stands w [] k → Answering w script script start start [] k
 answering-starts w script start k st = record {
-  done = []; past = []; split = refl; stands = st; completes = λ more others h. h; is_past = λ more others. refl; asks = asks-nothing start;
+  done = [];
+  past = [];
+  split = refl;
+  stands = st;
+  completes = λ more others h. h;
+  is_past = λ more others. refl;
+  asks = asks-nothing start;
 }
 
 bad-append : (replies : List Reply) (reply : Reply) → bad_replies (replies ++ reply ∷ []) ≡ bad_replies replies + bad_spans (spans_in reply)

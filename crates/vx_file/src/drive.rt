@@ -49,10 +49,11 @@ fn read_next<R: Reader>(
     let Some((number, spec, end)) = session.next() else {
         return Ok(None);
     };
+    let alignment = spec.alignment;
     let range = ReadAtRequest {
         offset: spec.offset,
         length: spec.length as usize,
-        alignment: spec.alignment,
+        alignment,
     };
     let mut reads = Sequence::new(alloc);
     reads.push(number)?;
@@ -60,7 +61,7 @@ fn read_next<R: Reader>(
     let span = Span {
         start: spec.offset,
         end,
-        alignment: spec.alignment,
+        alignment,
         reads,
         outcome: outcome_of(&read),
     };

@@ -4,6 +4,7 @@
 mod drive;
 #[cfg(test)]
 mod example;
+mod memory;
 mod queue;
 mod reading;
 mod reply;
@@ -15,6 +16,7 @@ mod span;
 mod step;
 mod steps;
 
+pub use memory::serve_in_memory;
 pub use reply::Reply;
 pub use served::{ServeError, Served};
 pub use serving::serve;

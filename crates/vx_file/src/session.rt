@@ -5,9 +5,9 @@ ghost use Rattle.vx_file.specs.declared.request.Request.{Request};
 ghost use Rattle.vx_file.specs.Queue.{is_in};
 ghost use Rattle.vx_file.specs.Kept.{cut as cut_of, first_state as first_state_of, fresh, with_request, with_state, poll_reply, polled_state, is_waiting_state, Polls, IsNext, is_due_at, read_state};
 
+use crate::Reply;
 use crate::queue::Queue;
 use crate::request::{Request, RequestState};
-use crate::Reply;
 use std::alloc::{AllocError, Global};
 use std::marker::Model;
 use std::mem;

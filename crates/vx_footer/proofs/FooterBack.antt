@@ -14,16 +14,15 @@ use Rattle.vx_base.specs.declared.segment.SegmentSpec.{SegmentSpec}
 use Rattle.vx_tables.specs.declared.elements.Elements.TheVariants.{Offsets, Segments}
 use Rattle.vx_tables.specs.Block.{Piece, in_order, tables, segment, block, root_bytes}
 use Rattle.vx_tables.specs.Field.{Table, Vector, root, table_of_vector, vector_field, text_field, element_bytes}
-use Rattle.vx_tables.specs.Counted.{Counted, each_from, enter, allowed, text_cost, optional_cost, each_table}
+use Rattle.vx_tables.specs.Counted.{Counted, vector_of, each_from, enter, allowed, text_cost, optional_cost, each_table}
 use Rattle.vx_tables.specs.Standing.{piece_at, Stands, ReadsBack, AreUtf8, IsTableAt}
 use Rattle.vx_tables.proofs.Places.{at_inside}
-use Rattle.vx_tables.proofs.ReadAll.{reads_back}
+use Rattle.vx_tables.proofs.ReadAll.{reads_back, root_read}
 use Rattle.vx_footer.specs.declared.table.FooterTable.{FooterTable}
 use Rattle.vx_footer.specs.declared.table.Locator.{Locator}
-use Rattle.vx_footer.specs.Tables.{vector_of, spec_in, specs_of, specs_field, segments_field, first_segment, footer_in, footer_table}
+use Rattle.vx_footer.specs.Tables.{spec_in, specs_of, specs_field, segments_field, first_segment, footer_in, footer_table}
 use Rattle.vx_footer.specs.Serialized.{id_pieces, flat_id, footer_pieces, ids_bytes}
-use Rattle.vx_footer.proofs.Walked.{Gets, then_gets, gets-pure, gets-present, gets-counted, gets-enter, gets-or_empty, gets-each, gets-allowed}
-use Rattle.vx_footer.proofs.TablesBack.{root_read}
+use Rattle.vx_tables.proofs.Walked.{Gets, then_gets, gets-pure, gets-present, gets-counted, gets-enter, gets-or_empty, gets-each, gets-allowed}
 
 -- ---- the ids
 

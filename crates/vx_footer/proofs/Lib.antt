@@ -1,5 +1,4 @@
 pub mod Seen
-pub mod Walked
 pub mod TablesBack
 pub mod FooterBack
 pub mod TailBack

@@ -12,7 +12,8 @@ use Rattle.vx_footer.specs.declared.error.OpenError.TheVariants.{TooSmall, BadMa
 use Rattle.vx_footer.specs.declared.footer.Footer.{Footer}
 use Rattle.vx_footer.specs.declared.table.Locator.{Locator}
 use Rattle.vx_footer.specs.declared.table.Tables.{Tables}
-use Rattle.vx_footer.specs.Opening.{◌>>=◌, ◌unless◌, marker_of, postscript_length, postscript_bytes, end_checks, postscript_checks, least_offset, table_bytes, table_checks, opening_checks, vx_grammar, seen_bytes, seen_checks, IsTail}
+use Rattle.vx_base.specs.Checks.{◌>>=◌, ◌unless◌}
+use Rattle.vx_footer.specs.Opening.{marker_of, postscript_length, postscript_bytes, end_checks, postscript_checks, least_offset, table_bytes, table_checks, opening_checks, vx_grammar, seen_bytes, seen_checks, IsTail}
 
 -- ---- the end marker
 

@@ -7,10 +7,9 @@ use Rattle.vx_tables.specs.declared.elements.Elements.{Elements}
 use Rattle.vx_tables.specs.declared.elements.Elements.TheVariants.{Numbers, Offsets}
 use Rattle.vx_tables.specs.Block.{Piece, table, in_order, root_bytes}
 use Rattle.vx_tables.specs.Field.{Table, root, slot, field, target_field, table_field, vector_field, element_bytes}
-use Rattle.vx_tables.specs.Counted.{free, allowed}
+use Rattle.vx_tables.specs.Counted.{free, vector_of, allowed}
 use Rattle.vx_tables.specs.Standing.{piece_at, Stands, ReadsBack}
-use Rattle.vx_tables.proofs.ReadAll.{reads_back}
-use Rattle.vx_tables.proofs.ReadTexts.{root_back}
+use Rattle.vx_tables.proofs.ReadAll.{reads_back, root_read, no_number, no_table, no_vector}
 use Rattle.vx_footer.specs.declared.ptype.PType.{PType}
 use Rattle.vx_footer.specs.declared.ptype.PType.TheVariants.{U8, U16, U32, U64, I8, I16, I32, I64}
 use Rattle.vx_footer.specs.declared.table.DTypeTable.{DTypeTable}
@@ -18,34 +17,10 @@ use Rattle.vx_footer.specs.declared.table.LayoutTable.{LayoutTable}
 use Rattle.vx_footer.specs.declared.table.Locator.{Locator}
 use Rattle.vx_footer.specs.declared.table.PostscriptTable.{PostscriptTable}
 use Rattle.vx_footer.specs.declared.table.Tables.{Tables}
-use Rattle.vx_footer.specs.Tables.{vector_of, dtype_in, dtype_table, number_in, layout_in, layout_table, locator, locator_field, locator_required, postscript_in, postscript_table}
+use Rattle.vx_footer.specs.Tables.{dtype_in, dtype_table, number_in, layout_in, layout_table, locator, locator_field, locator_required, postscript_in, postscript_table}
 use Rattle.vx_footer.specs.Opening.{ptype_of_number, dtype_checks, postscript_checks}
 use Rattle.vx_footer.specs.Serialized.{ptype_number, dtype_pieces, ptype_bytes, layout_pieces, rows_bytes, locator_pieces, postscript_pieces, places_bytes, places}
-use Rattle.vx_footer.proofs.Walked.{Gets, then_gets, gets-pure, gets-free, gets-counted, gets-enter, gets-enter_optional, gets-no_table, gets-present, gets-allowed}
-
--- a table that was written, found in the bytes of its root
-pub record IsRoot (b : List ℕ) (ps : List Piece) : Type 0 where
-  pub table : Table
-  pub found : root b ≡ Some table
-  pub stands : Stands b table ps
-  pub reads : ReadsBack b table ps
-
-pub root_read : (ps : List Piece) → in_order 0 ps ≡ true → length (root_bytes ps) < 2 ^ 32 → IsRoot (root_bytes ps) ps
-root_read ps order short = let i = root_back ps order short in record { table = i.table; found = i.found; stands = i.stands; reads = reads_back (root_bytes ps) i.table ps i.stands }
-
--- ---- fields that are absent
-
-pub no_number : (w : Width) (b : List ℕ) (t : Table) (k : ℕ) → slot b t k ≡ Some None → field w b t k ≡ Some None
-unfolding field
-no_number w b t k e = rw e refl
-
-pub no_table : (b : List ℕ) (t : Table) (k : ℕ) → slot b t k ≡ Some None → table_field b t k ≡ Some None
-unfolding table_field target_field
-no_table b t k e = rw e refl
-
-pub no_vector : (b : List ℕ) (t : Table) (k : ℕ) (elements : Elements) → slot b t k ≡ Some None → vector_field b t k elements ≡ Some None
-unfolding vector_field target_field
-no_vector b t k elements e = rw e refl
+use Rattle.vx_tables.proofs.Walked.{Gets, then_gets, gets-pure, gets-free, gets-counted, gets-enter, gets-enter_optional, gets-no_table, gets-present, gets-allowed}
 
 -- ---- the dtype
 

@@ -4,6 +4,7 @@ use Rattle.std.specs.Prelude.{ℕ, ◌≡◌, ◌≤◌, ◌+◌, ◌-◌, Bool,
 use Rattle.std.specs.Int.{w16, from_le_bytes}
 use Rattle.std.specs.Str.{bytes_eq}
 use Rattle.vx_base.specs.Buffer.{bytes_at}
+use Rattle.vx_base.specs.Checks.{◌>>=◌, ◌unless◌, ◌lacking◌}
 use Rattle.vx_base.specs.declared.segment.SegmentSpec.{SegmentSpec}
 use Rattle.vx_tables.specs.Counted.{allowed}
 use Rattle.vx_footer.specs.Tables.{postscript_table, dtype_table, layout_table, footer_table}
@@ -19,22 +20,6 @@ use Rattle.vx_footer.specs.declared.table.Tables.{Tables}
 use Rattle.vx_footer.specs.declared.table.DTypeTable.{DTypeTable}
 use Rattle.vx_footer.specs.declared.table.LayoutTable.{LayoutTable}
 use Rattle.vx_footer.specs.declared.table.FooterTable.{FooterTable}
-
-infixl 10 ◌>>=◌
-abbrev pub ◌>>=◌ : {A B : Type 0} → Result A OpenError → (A → Result B OpenError) → Result B OpenError
-(Ok x) >>= f = f x
-(Err e) >>= f = Err e
-
--- a named check: this refusal, unless the condition holds
-infixl 20 ◌unless◌
-abbrev pub ◌unless◌ : OpenError → Bool → Result (Unit {0}) OpenError
-e unless condition = if condition then Ok tt else Err e
-
--- a value that a check gives: this refusal, where there is none
-infixl 20 ◌lacking◌
-abbrev pub ◌lacking◌ : {A : Type 0} → OpenError → Option A → Result A OpenError
-e lacking None = Err e
-e lacking (Some x) = Ok x
 
 -- ---- the end marker: a version, the postscript's length, and the magic
 
@@ -225,11 +210,7 @@ pub record IsTail (file : List ℕ) (start : ℕ) (tail : List ℕ) : Type 0 whe
 
 -- ---- what a function answers
 
--- what a function returned, seen by a view, is what a definition gives, unless memory ran out
+-- what an error tells: it is what the definition gives, unless memory ran out
 abbrev pub Fails : {A : Type 0} → OpenError → Result A OpenError → Type 0
 Fails OutOfMemory answer = Unit {0}
 Fails e answer = answer ≡ Err e
-
-abbrev pub Gives : {X A : Type 0} → (X → A) → Result X OpenError → Result A OpenError → Type 0
-Gives view (Ok x) answer = answer ≡ Ok (view x)
-Gives view (Err e) answer = Fails e answer

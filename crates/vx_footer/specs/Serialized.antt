@@ -4,6 +4,7 @@ use Rattle.std.specs.Int.{w8, w16, w32, w64, to_le_bytes}
 use Rattle.std.specs.List.{flat_map}
 use Rattle.vx_base.specs.declared.segment.SegmentSpec.{SegmentSpec}
 use Rattle.vx_base.specs.Buffer.{Buffer}
+use Rattle.vx_base.specs.Checks.{◌>>=◌}
 use Rattle.vx_tables.specs.Block.{Piece, number, numbers, text, table, tables, segments, root_bytes}
 use Rattle.vx_tables.specs.declared.table_error.TableError.{TableError}
 use Rattle.vx_tables.specs.declared.table_error.TableError.TheVariants as refused
@@ -115,11 +116,6 @@ abbrev pub of_table : TableError → SerializeError
 of_table refused.TableTooLong = SegmentTooLong
 of_table refused.OutOfMemory = OutOfMemory
 
-infixl 10 ◌>>=◌
-abbrev pub ◌>>=◌ : {A B : Type 0} → Result A SerializeError → (A → Result B SerializeError) → Result B SerializeError
-(Ok x) >>= f = f x
-(Err e) >>= f = Err e
-
 -- a table whose length a locator can hold
 abbrev pub segment_of : List ℕ → Result (List ℕ) SerializeError
 segment_of bytes = if nat_lt (length bytes) (2 ^ 32) then Ok bytes else Err SegmentTooLong
@@ -139,14 +135,10 @@ serialize_checks at f = do
 
 -- ---- what a function answers
 
--- what a function returned, seen by a view, is what a definition gives, unless memory ran out
+-- what an error tells: it is what the definition gives, unless memory ran out
 abbrev pub Fails : {A : Type 0} → SerializeError → Result A SerializeError → Type 0
 Fails OutOfMemory answer = Unit {0}
 Fails e answer = answer ≡ Err e
-
-abbrev pub Gives : {X A : Type 0} → (X → A) → Result X SerializeError → Result A SerializeError → Type 0
-Gives view (Ok x) answer = answer ≡ Ok (view x)
-Gives view (Err e) answer = Fails e answer
 
 -- the bytes of one buffer after the other
 abbrev pub joined : List Buffer → List ℕ

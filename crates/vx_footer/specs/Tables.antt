@@ -1,30 +1,15 @@
 -- The tables of a file as they stand: the grammar of each, with the visits and levels that it takes.
-use Rattle.std.specs.Prelude.{◌≡◌, ℕ, ◌||◌, not, ◌==◌, nat_le, if◌then◌else◌, List, length, take, drop, Option, Some, None, is_some, unwrap_or, Result, Ok, Err}
+use Rattle.std.specs.Prelude.{ℕ, ◌||◌, not, ◌==◌, nat_le, if◌then◌else◌, List, length, take, drop, Option, Some, None, is_some}
 use Rattle.std.specs.Int.{w8, w16, w32, w64, from_le_bytes}
 use Rattle.vx_tables.specs.declared.elements.Elements.{Elements}
 use Rattle.vx_tables.specs.declared.elements.Elements.TheVariants.{Numbers, Offsets, Segments}
-use Rattle.vx_tables.specs.Field.{◌>>=◌ as ◌then◌, Table, Vector, root, field, text_field, table_field, vector_field, element_bytes}
-use Rattle.vx_tables.specs.Counted.{Counted, ◌>>=◌, pure, counted, free, enter, enter_optional, present, each_table, or_empty, optional_cost, vector_cost, text_cost}
+use Rattle.vx_tables.specs.Field.{◌>>=◌ as ◌then◌, Table, Vector, root, field, text_field, table_field, element_bytes}
+use Rattle.vx_tables.specs.Counted.{Counted, ◌>>=◌, pure, counted, free, enter, enter_optional, present, each_table, or_empty, optional_cost, text_cost, or_zero, vector_of, count_of}
 use Rattle.vx_footer.specs.declared.table.Locator.{Locator}
 use Rattle.vx_footer.specs.declared.table.PostscriptTable.{PostscriptTable}
 use Rattle.vx_footer.specs.declared.table.DTypeTable.{DTypeTable}
 use Rattle.vx_footer.specs.declared.table.LayoutTable.{LayoutTable}
 use Rattle.vx_footer.specs.declared.table.FooterTable.{FooterTable}
-use Rattle.vx_footer.specs.declared.table_error.TableError.{TableError}
-use Rattle.vx_footer.specs.declared.table_error.TableError.TheVariants.{BadTable, OutOfMemory}
-
--- a number that is 0 where it is absent
-abbrev pub or_zero : Option ℕ → ℕ
-or_zero n = unwrap_or n 0
-
--- a vector of elements, with its visits
-abbrev pub vector_of : List ℕ → Table → ℕ → Elements → Option (Counted (Option Vector))
-vector_of b t k elements = counted (optional_cost (vector_cost elements)) (vector_field b t k elements)
-
--- how many elements there are
-abbrev pub count_of : Option Vector → ℕ
-count_of None = 0
-count_of (Some v) = v.count
 
 -- ---- the postscript
 
@@ -140,16 +125,3 @@ footer_in b t = do
 
 unfoldable pub footer_table : List ℕ → Option (Counted FooterTable)
 footer_table b = enter (root b) (footer_in b)
-
--- ---- what a reader answers
-
--- what a reader that may want memory returned, seen by a view, and the visits that it left
-abbrev pub Walks : {X A : Type 0} → (X → A) → Result X TableError → ℕ → Option (A × ℕ) → Type 0
-Walks view (Ok x) left walk = walk ≡ Some (view x, left)
-Walks view (Err BadTable) left walk = walk ≡ None
-Walks view (Err OutOfMemory) left walk = Unit {0}
-
-abbrev pub Reads : {X A : Type 0} → (X → A) → Result X TableError → Option A → Type 0
-Reads view (Ok x) read = read ≡ Some (view x)
-Reads view (Err BadTable) read = read ≡ None
-Reads view (Err OutOfMemory) read = Unit {0}

@@ -12,7 +12,6 @@ mod read_back;
 mod serialize_error;
 mod serializing;
 mod table;
-mod table_error;
 mod table_reading;
 
 pub use error::{OpenError, Which};

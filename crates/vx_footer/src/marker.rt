@@ -1,5 +1,6 @@
 //! The end marker of a file, and the postscript before it.
-ghost use Rattle.vx_footer.specs.Opening.{end_checks, Gives};
+ghost use Rattle.vx_base.specs.Checks.{Gives};
+ghost use Rattle.vx_footer.specs.Opening.{end_checks, Fails};
 
 use crate::OpenError;
 
@@ -14,7 +15,7 @@ const MAX_POSTSCRIPT_SIZE: usize = 65527;
 /// The postscript's bytes, from the last bytes of a file.
 #[tactic(auto, unfolding(crate::specs::Opening::end_checks))]
 pub(crate) fn postscript_of(tail: &[u8]) -> Result<&[u8], OpenError>
-    ensures { Gives (λ bytes. bytes.now) result (end_checks tail.now) }
+    ensures { Gives Fails (λ bytes. bytes.now) result (end_checks tail.now) }
 {
     if tail.len() < MARKER_SIZE {
         return Err(OpenError::TooSmall);

@@ -1,16 +1,17 @@
 //! Opens a file: the checks in order, and the footer.
 ghost use Rattle.std.specs.Prelude.{◌≡◌, ◌+◌, ◌^◌, ◌<◌, List, ℕ, length, All, IfOk};
 ghost use Rattle.std.specs.Option.{option_map};
-ghost use Rattle.vx_footer.specs.Opening.{ptype_of_number, ptype_of, is_flat as is_flat_id, is_known as is_known_id, is_leaf as is_leaf_table, is_small as is_small_table, layout_checks, segment_checks, dtype_checks, layout_and_segment, footer_checks, table_checks, seen_bytes, seen_checks, vx_grammar, IsTail, EndsWithin, Gives};
+ghost use Rattle.vx_base.specs.Checks.{Gives};
+ghost use Rattle.vx_footer.specs.Opening.{ptype_of_number, ptype_of, is_flat as is_flat_id, is_known as is_known_id, is_leaf as is_leaf_table, is_small as is_small_table, layout_checks, segment_checks, dtype_checks, layout_and_segment, footer_checks, table_checks, seen_bytes, seen_checks, vx_grammar, IsTail, EndsWithin, Fails};
 
 use crate::marker::postscript_of;
 use crate::postscript::tables_of;
 use crate::table::{DTypeTable, FooterTable, LayoutTable, Locator, Tables};
-use crate::table_error::TableError;
 use crate::table_reading::{read_dtype, read_footer, read_layout};
 use crate::{Footer, OpenError, PType, SegmentSpecs, Which};
 use std::alloc::Global;
 use vx_base::{Alignment, SegmentId, SegmentSpec};
+use vx_tables::WalkError;
 
 /// The kind of an integer dtype.
 pub(crate) const INTEGER: u8 = 2;
@@ -50,7 +51,7 @@ fn integer_type(dtype: DTypeTable) -> Option<PType>
 
 #[tactic(auto, unfolding(crate::specs::Opening::dtype_checks))]
 fn ptype_in(bytes: &[u8]) -> Result<PType, OpenError>
-    ensures { Gives (λ ptype. ptype) result (dtype_checks bytes.now) }
+    ensures { Gives Fails (λ ptype. ptype) result (dtype_checks bytes.now) }
 {
     let Ok(dtype) = read_dtype(bytes) else {
         return Err(OpenError::BadTable(Which::DType));
@@ -88,7 +89,7 @@ fn is_small(footer: &FooterTable) -> bool
 /// The layout, of which the footer's table names the encodings.
 #[tactic(auto, unfolding(crate::specs::Opening::layout_checks))]
 fn layout_in(footer: &FooterTable, bytes: &[u8]) -> Result<LayoutTable, OpenError>
-    ensures { Gives (λ layout. layout) result (layout_checks footer.now bytes.now) }
+    ensures { Gives Fails (λ layout. layout) result (layout_checks footer.now bytes.now) }
 {
     let Ok(layout) = read_layout(bytes) else {
         return Err(OpenError::BadTable(Which::Layout));
@@ -111,7 +112,7 @@ fn layout_in(footer: &FooterTable, bytes: &[u8]) -> Result<LayoutTable, OpenErro
 /// The data segment, in a file of this size.
 #[tactic(auto, unfolding(crate::specs::Opening::segment_checks))]
 fn segment_of(locator: Locator, size: u64) -> Result<SegmentSpec, OpenError>
-    ensures value { Gives (λ segment. segment) result (segment_checks locator size) }
+    ensures value { Gives Fails (λ segment. segment) result (segment_checks locator size) }
     ensures within { IfOk result (EndsWithin size) }
 {
     let Ok(alignment) = Alignment::new(locator.exponent) else {
@@ -152,7 +153,7 @@ fn layout_and_segment_of(
     size: u64,
     layout_bytes: &[u8],
 ) -> Result<(LayoutTable, SegmentSpec), OpenError>
-    ensures value { Gives (λ parts. parts) result (layout_and_segment footer.now size layout_bytes.now) }
+    ensures value { Gives Fails (λ parts. parts) result (layout_and_segment footer.now size layout_bytes.now) }
     ensures within { IfOk result (λ parts. EndsWithin size parts.1) }
 {
     let Some(segment) = footer.segment else {
@@ -178,13 +179,13 @@ fn footer_in(
     footer_bytes: &[u8],
     layout_bytes: &[u8],
 ) -> Result<Footer, OpenError>
-    ensures value { Gives (λ footer. footer) result (footer_checks ptype size footer_bytes.now layout_bytes.now) }
+    ensures value { Gives Fails (λ footer. footer) result (footer_checks ptype size footer_bytes.now layout_bytes.now) }
     ensures within { IfOk result (λ footer. All (EndsWithin size) footer.segments) }
 {
     let footer = match read_footer(alloc, footer_bytes) {
         Ok(footer) => footer,
-        Err(TableError::BadTable) => return Err(OpenError::BadTable(Which::Footer)),
-        Err(TableError::OutOfMemory) => return Err(OpenError::OutOfMemory),
+        Err(WalkError::BadTable) => return Err(OpenError::BadTable(Which::Footer)),
+        Err(WalkError::OutOfMemory) => return Err(OpenError::OutOfMemory),
     };
     let (layout, segment) = layout_and_segment_of(&footer, size, layout_bytes)?;
     Ok(Footer {
@@ -200,7 +201,7 @@ fn footer_in(
 #[tactic(auto, unfolding(crate::specs::Opening::table_checks))]
 fn footer_of(alloc: Global, start: u64, tail: &[u8], tables: Tables) -> Result<Footer, OpenError>
     requires { start + length tail.now < 2 ^ 64 }
-    ensures value { Gives (λ footer. footer) result (table_checks (seen_bytes start tail.now) (start + length tail.now) tables) }
+    ensures value { Gives Fails (λ footer. footer) result (table_checks (seen_bytes start tail.now) (start + length tail.now) tables) }
     ensures within { IfOk result (λ footer. All (EndsWithin (start + length tail.now)) footer.segments) }
 {
     let Some(dtype_bytes) = bytes_of(start, tail, tables.dtype) else {
@@ -220,7 +221,7 @@ fn footer_of(alloc: Global, start: u64, tail: &[u8], tables: Tables) -> Result<F
 #[tactic(auto, unfolding(crate::specs::Opening::seen_checks, crate::specs::Opening::opening_checks))]
 fn read_seen(alloc: Global, start: u64, tail: &[u8]) -> Result<Footer, OpenError>
     requires { start + length tail.now < 2 ^ 64 }
-    ensures value { Gives (λ footer. footer) result (seen_checks start tail.now) }
+    ensures value { Gives Fails (λ footer. footer) result (seen_checks start tail.now) }
     ensures within { IfOk result (λ footer. All (EndsWithin (start + length tail.now)) footer.segments) }
 {
     let tables = tables_of(postscript_of(tail)?)?;
@@ -235,7 +236,7 @@ impl Footer {
     /// the file fails.
     pub fn read(alloc: Global, start: u64, tail: &[u8]) -> Result<Footer, OpenError>
         requires { start + length tail.now < 2 ^ 64 }
-        ensures value { (file : List ℕ) → IsTail file start tail.now → Gives (λ footer. footer) result (vx_grammar file) }
+        ensures value { (file : List ℕ) → IsTail file start tail.now → Gives Fails (λ footer. footer) result (vx_grammar file) }
         ensures within { IfOk result (λ footer. All (EndsWithin (start + length tail.now)) footer.segments) }
     {
         read_seen(alloc, start, tail)

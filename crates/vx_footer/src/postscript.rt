@@ -3,7 +3,8 @@ ghost use Rattle.std.specs.Prelude.{◌≡◌, ℕ, min};
 ghost use Rattle.std.specs.Result.{result_ok};
 ghost use Rattle.vx_tables.specs.Counted.{allowed};
 ghost use Rattle.vx_footer.specs.Tables.{postscript_table};
-ghost use Rattle.vx_footer.specs.Opening.{passes, is_plain as is_plain_locator, is_aligned as is_aligned_locator, all_plain as has_all_plain, all_aligned as has_all_aligned, is_bare as has_nothing_else, least_offset as least_offset_of, postscript_checks, Gives};
+ghost use Rattle.vx_base.specs.Checks.{Gives};
+ghost use Rattle.vx_footer.specs.Opening.{passes, is_plain as is_plain_locator, is_aligned as is_aligned_locator, all_plain as has_all_plain, all_aligned as has_all_aligned, is_bare as has_nothing_else, least_offset as least_offset_of, postscript_checks, Fails};
 
 use crate::table::{Locator, PostscriptTable, Tables};
 use crate::table_reading::read_postscript;
@@ -72,7 +73,7 @@ fn is_bare(p: &PostscriptTable) -> bool
 /// The places of the tables that are needed, from the postscript's bytes.
 #[tactic(auto, unfolding(crate::specs::Opening::postscript_checks))]
 pub(crate) fn tables_of(bytes: &[u8]) -> Result<Tables, OpenError>
-    ensures { Gives (λ tables. tables) result (postscript_checks bytes.now) }
+    ensures { Gives Fails (λ tables. tables) result (postscript_checks bytes.now) }
 {
     let Ok(p) = read_postscript(bytes) else {
         return Err(OpenError::BadTable(Which::Postscript));

@@ -1,6 +1,7 @@
 //! Writes a footer: its tables, the postscript that says where they lie, and the end marker.
 ghost use Rattle.std.specs.Prelude.{All, ◌≡◌, ◌+◌, ◌<◌, ◌^◌, ◌∷◌, [], ◌++◌, IfOk, length, map, string_bytes};
-ghost use Rattle.vx_footer.specs.Serialized.{ptype_number, id_pieces, flat_id, footer_pieces, locator_pieces, postscript_pieces, ptype_bytes, rows_bytes, ids_bytes, places_bytes, end_marker as end_marker_bytes, place, segment_of, placed, serialize_checks, serialized, joined, Gives};
+ghost use Rattle.vx_base.specs.Checks.{Gives};
+ghost use Rattle.vx_footer.specs.Serialized.{ptype_number, id_pieces, flat_id, footer_pieces, locator_pieces, postscript_pieces, ptype_bytes, rows_bytes, ids_bytes, places_bytes, end_marker as end_marker_bytes, place, segment_of, placed, serialize_checks, serialized, joined, Fails};
 
 use crate::marker::{MAGIC, VERSION};
 use crate::opening::INTEGER;
@@ -35,7 +36,7 @@ fn number_of(ptype: PType) -> u8
 /// The root of the dtype table: an integer that is not nullable.
 #[tactic(auto, unfolding(crate::specs::Serialized::ptype_bytes))]
 fn dtype_table(alloc: Global, ptype: PType) -> Result<ByteBuffer, SerializeError>
-    ensures value { Gives (λ b. b.bytes) result (segment_of (ptype_bytes ptype)) }
+    ensures value { Gives Fails (λ b. b.bytes) result (segment_of (ptype_bytes ptype)) }
     ensures short { IfOk result (λ b. length b.bytes < 2 ^ 32) }
     ensures unaligned { IfOk result (λ b. b.alignment ≡ 0) }
 {
@@ -53,7 +54,7 @@ fn layout_table(
     row_count: u64,
     segment: SegmentId,
 ) -> Result<ByteBuffer, SerializeError>
-    ensures value { Gives (λ b. b.bytes) result (segment_of (rows_bytes row_count segment.0)) }
+    ensures value { Gives Fails (λ b. b.bytes) result (segment_of (rows_bytes row_count segment.0)) }
     ensures short { IfOk result (λ b. length b.bytes < 2 ^ 32) }
     ensures unaligned { IfOk result (λ b. b.alignment ≡ 0) }
 {
@@ -111,7 +112,7 @@ fn footer_table(
     ids: &TextList,
     specs: &SegmentSpecs,
 ) -> Result<ByteBuffer, SerializeError>
-    ensures value { Gives (λ b. b.bytes) result (segment_of (ids_bytes ids.now specs.now)) }
+    ensures value { Gives Fails (λ b. b.bytes) result (segment_of (ids_bytes ids.now specs.now)) }
     ensures short { IfOk result (λ b. length b.bytes < 2 ^ 32) }
     ensures unaligned { IfOk result (λ b. b.alignment ≡ 0) }
 {
@@ -184,7 +185,7 @@ fn places_of(
     requires dtype { length dtype.now.bytes < 2 ^ 32 }
     requires layout { length layout.now.bytes < 2 ^ 32 }
     requires footer { length footer.now.bytes < 2 ^ 32 }
-    ensures { Gives (λ t. t) result (placed offset dtype.now.bytes layout.now.bytes footer.now.bytes) }
+    ensures { Gives Fails (λ t. t) result (placed offset dtype.now.bytes layout.now.bytes footer.now.bytes) }
 {
     let head = dtype.len() as u64;
     let middle = layout.len() as u64;
@@ -206,7 +207,7 @@ impl Footer {
     /// tables that would end past the offset 2^64 - 1.
     #[tactic(auto, unfolding(crate::specs::Serialized::serialize_checks))]
     pub fn serialize(&self, alloc: Global, offset: u64) -> Result<Vec<ByteBuffer>, SerializeError>
-        ensures value { Gives (λ buffers. map (λ b. b.bytes) buffers.items) result (serialize_checks offset self.now) }
+        ensures value { Gives Fails (λ buffers. map (λ b. b.bytes) buffers.items) result (serialize_checks offset self.now) }
         ensures bytes { IfOk result (λ buffers. joined buffers.items ≡ serialized offset self.now) }
         ensures unaligned { IfOk result (λ buffers. All (λ b. b.alignment ≡ 0) buffers.items) }
     {

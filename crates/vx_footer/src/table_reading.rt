@@ -4,13 +4,13 @@ ghost use Rattle.std.specs.Result.{result_ok};
 ghost use Rattle.std.specs.Option.{option_map};
 ghost use Rattle.vx_tables.specs.Counted.{within, allowed};
 ghost use Rattle.vx_tables.specs.Reader.{taken};
-ghost use Rattle.vx_footer.specs.Tables.{locator, locator_field as locator_of_slot, locator_required as locator_needed, postscript_in, postscript_table, dtype_in, dtype_table, layout_in, layout_table, spec_in, specs_of, specs_field as specs_of_slot, segments_field as segments_of_slot, segment_struct, first_segment as first_segment_of, number_in, footer_in, footer_table, Walks, Reads};
+ghost use Rattle.vx_footer.specs.Tables.{locator, locator_field as locator_of_slot, locator_required as locator_needed, postscript_in, postscript_table, dtype_in, dtype_table, layout_in, layout_table, spec_in, specs_of, specs_field as specs_of_slot, segments_field as segments_of_slot, segment_struct, first_segment as first_segment_of, number_in, footer_in, footer_table};
+ghost use Rattle.vx_tables.specs.Walking.{Walks, Reads};
 
 use crate::TextList;
 use crate::table::{DTypeTable, FooterTable, LayoutTable, Locator, PostscriptTable};
-use crate::table_error::TableError;
 use std::alloc::Global;
-use vx_tables::{BadTable, Elements, TableReader, VectorReader, Visits};
+use vx_tables::{BadTable, Elements, TableReader, VectorReader, Visits, WalkError};
 
 #[tactic(auto, unfolding(crate::specs::Tables::locator))]
 fn read_locator(table: &TableReader<'_>) -> Result<Locator, BadTable>
@@ -164,12 +164,12 @@ fn read_spec(
     alloc: Global,
     table: &TableReader<'_>,
     visits: &mut Visits,
-) -> Result<String, TableError>
+) -> Result<String, WalkError>
     ensures { Walks string_bytes result visits.new (within table.now.levels visits.old (spec_in table.now.bytes table.now.table)) }
 {
     match table.field_text(0, visits)? {
         Some(id) => Ok(String::from_str(alloc, id)?),
-        None => Err(TableError::BadTable),
+        None => Err(WalkError::BadTable),
     }
 }
 
@@ -178,7 +178,7 @@ fn read_specs(
     alloc: Global,
     vector: &VectorReader<'_>,
     visits: &mut Visits,
-) -> Result<TextList, TableError>
+) -> Result<TextList, WalkError>
     requires { vector.now.elements ≡ Elements.Offsets }
     ensures { Walks (λ ids. ids) result visits.new (within vector.now.levels visits.old (specs_of vector.now.bytes vector.now.vector)) }
 {
@@ -197,7 +197,7 @@ fn specs_field(
     table: &TableReader<'_>,
     slot: usize,
     visits: &mut Visits,
-) -> Result<TextList, TableError>
+) -> Result<TextList, WalkError>
     ensures { Walks (λ ids. ids) result visits.new (within table.now.levels visits.old (specs_of_slot table.now.bytes table.now.table slot)) }
 {
     match table.field_vector(slot, Elements::Offsets, visits)? {
@@ -239,13 +239,13 @@ fn footer_of(
     alloc: Global,
     table: &TableReader<'_>,
     visits: &mut Visits,
-) -> Result<FooterTable, TableError>
+) -> Result<FooterTable, WalkError>
     ensures { Walks (λ f. f) result visits.new (within table.now.levels visits.old (footer_in table.now.bytes table.now.table)) }
 {
     let arrays = specs_field(alloc, table, 0, visits)?;
     let layouts = specs_field(alloc, table, 1, visits)?;
     let Some(segments) = table.field_vector(2, Elements::Segments, visits)? else {
-        return Err(TableError::BadTable);
+        return Err(WalkError::BadTable);
     };
     Ok(FooterTable {
         arrays,
@@ -257,7 +257,7 @@ fn footer_of(
 
 /// The footer's table that a root spells.
 #[tactic(auto, using(vx_tables::proofs::Walk::walk_steps), unfolding(crate::specs::Tables::footer_table, vx_tables::specs::Counted::allowed))]
-pub(crate) fn read_footer(alloc: Global, bytes: &[u8]) -> Result<FooterTable, TableError>
+pub(crate) fn read_footer(alloc: Global, bytes: &[u8]) -> Result<FooterTable, WalkError>
     ensures { Reads (λ f. f) result (allowed (footer_table bytes.now)) }
 {
     let mut visits = Visits::new();

@@ -64,7 +64,7 @@ impl Failure {
     /// Writes the line for the error stream. What the stream answers changes nothing.
     pub(crate) fn tell<E: Sink>(&self, alloc: Global, err: &mut E, name: &str)
         ensures told { Tells (message_of self.now name.now) (E.state err.old) (E.state err.new) }
-    ensures same { SameSink (E.state err.old) (E.state err.new) }
+        ensures same { SameSink (E.state err.old) (E.state err.new) }
     {
         match self {
             Failure::Usage => tell(alloc, err, &[b"vx: usage\n".as_slice()]),

@@ -3,37 +3,39 @@
 
 mod command;
 mod demo;
+#[cfg(test)]
+mod demo_tests;
 mod failure;
 mod input;
+mod memory;
+#[cfg(test)]
+mod real_tests;
 mod render;
 mod repeats;
 mod run;
 mod script;
+#[cfg(test)]
+mod stream_tests;
 mod telling;
+#[cfg(test)]
+mod tests;
+mod words;
 
 use std::process::ExitCode;
-use std::{env, io};
 use vx_base::{FileOpener, StdSink, StdSource};
 
-/// The words after the program's name.
-fn words(rt: &HostRuntime) -> io::Result<Vec<String>> {
-    let mut words = Vec::new(rt.alloc());
-    for word in env::args(rt)?.skip(1) {
-        words.push(word)?;
-    }
-    Ok(words)
-}
-
-/// Words that are no text are no command.
 fn main(rt: HostRuntime) -> ExitCode {
     let alloc = rt.alloc();
-    let words = match words(&rt) {
+    let mut err = StdSink::new(rt.stderr());
+    let words = match words::read_words(&rt) {
         Ok(words) => words,
-        Err(_) => Vec::new(alloc),
+        Err(error) => {
+            let failure = words::unread(error.kind());
+            return ExitCode::from(run::fail(alloc, &mut err, failure, ""));
+        }
     };
     let mut input = StdSource::new(rt.stdin());
     let mut out = StdSink::new(rt.stdout());
-    let mut err = StdSink::new(rt.stderr());
     let mut files = FileOpener::new(rt);
     let status = run::run(
         alloc,

@@ -7,8 +7,8 @@ use itoa::Buffer;
 use std::alloc::{AllocError, Global};
 use vx_base::SegmentSpec;
 use vx_file::{Reply, Served, Span, SpanOutcome};
-use vx_sched::{Fault, Place};
 use vx_footer::{Footer, PType, TextList};
+use vx_sched::{Fault, Place};
 
 /// Adds the digits of a number.
 pub(crate) fn put_number(text: &mut Vec<u8>, number: u64) -> Result<(), AllocError>

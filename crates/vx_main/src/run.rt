@@ -147,7 +147,7 @@ fn produce<I: Source, F: Opener>(
 }
 
 /// Writes a failure's text, and gives its status. A failing write changes no status.
-fn fail<E: Sink>(alloc: Global, err: &mut E, failure: Failure, name: &str) -> u8
+pub(crate) fn fail<E: Sink>(alloc: Global, err: &mut E, failure: Failure, name: &str) -> u8
     ensures fails { Fails failure name.now (E.state err.old) (E.state err.new) result }
     ensures same { SameSink (E.state err.old) (E.state err.new) }
 {

@@ -8,3 +8,5 @@ pub mod ReadTexts
 pub mod ReadVectors
 pub mod Walk
 pub mod Text
+pub mod Walked
+pub mod Numbers

@@ -1,12 +1,13 @@
 -- Each field of a written table is read back.
-use Rattle.std.proofs.Common.{ℕ, ◌<◌, List, arith}
+use Rattle.std.proofs.Common.{◌≡◌, ℕ, ◌<◌, ◌^◌, true, List, length, Some, None, refl, arith}
 use Rattle.std.specs.Int.{Width, w8, w16, w32, w64, w128}
-use Rattle.vx_tables.specs.Block.{Piece}
-use Rattle.vx_tables.specs.Field.{Table}
+use Rattle.vx_tables.specs.declared.elements.Elements.{Elements}
+use Rattle.vx_tables.specs.Block.{Piece, in_order, root_bytes}
+use Rattle.vx_tables.specs.Field.{Table, root, slot, field, target_field, table_field, vector_field}
 use Rattle.vx_tables.specs.Standing.{Stands, limit, ReadsBack}
 use Rattle.vx_tables.proofs.Places.{Holds, holds_8, holds_16, holds_32, holds_64}
 use Rattle.vx_tables.proofs.ReadBack.{slot_absent, number_back}
-use Rattle.vx_tables.proofs.ReadTexts.{text_back, table_field_back}
+use Rattle.vx_tables.proofs.ReadTexts.{root_back, text_back, table_field_back}
 use Rattle.vx_tables.proofs.ReadVectors.{bytes_back, numbers_back, segments_back, texts_back, tables_back}
 
 holds_below : (w : Width) (n : ℕ) → n < limit w → Holds w n
@@ -28,3 +29,27 @@ reads_back b t ps h = record {
   table = λ k qs found order. table_field_back b t ps k qs h found order;
   tables = λ k ws found. tables_back b t ps k ws h found;
 }
+
+-- a table that was written, found in the bytes of its root
+pub record IsRoot (b : List ℕ) (ps : List Piece) : Type 0 where
+  pub table : Table
+  pub found : root b ≡ Some table
+  pub stands : Stands b table ps
+  pub reads : ReadsBack b table ps
+
+pub root_read : (ps : List Piece) → in_order 0 ps ≡ true → length (root_bytes ps) < 2 ^ 32 → IsRoot (root_bytes ps) ps
+root_read ps order short = let i = root_back ps order short in record { table = i.table; found = i.found; stands = i.stands; reads = reads_back (root_bytes ps) i.table ps i.stands }
+
+-- ---- fields that are absent
+
+pub no_number : (w : Width) (b : List ℕ) (t : Table) (k : ℕ) → slot b t k ≡ Some None → field w b t k ≡ Some None
+unfolding field
+no_number w b t k e = rw e refl
+
+pub no_table : (b : List ℕ) (t : Table) (k : ℕ) → slot b t k ≡ Some None → table_field b t k ≡ Some None
+unfolding table_field target_field
+no_table b t k e = rw e refl
+
+pub no_vector : (b : List ℕ) (t : Table) (k : ℕ) (elements : Elements) → slot b t k ≡ Some None → vector_field b t k elements ≡ Some None
+unfolding vector_field target_field
+no_vector b t k elements e = rw e refl

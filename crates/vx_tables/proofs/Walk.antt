@@ -1,11 +1,11 @@
 -- Walking within limits: what is left after one step is the limit of the next.
-use Rattle.std.proofs.Common.{◌≡◌, ℕ, zero, suc, ◌+◌, ◌-◌, ◌≤◌, ◌<◌, max, Bool, true, false, cond, List, [], ◌∷◌, ◌++◌, append_assoc, Option, Some, None, refl, sym, ap, ◌∙◌, arith}
+use Rattle.std.proofs.Common.{◌≡◌, ℕ, zero, suc, ◌+◌, ◌-◌, ◌≤◌, ◌<◌, max, Bool, true, false, cond, List, [], ◌∷◌, ◌++◌, append_assoc, map, Option, Some, None, refl, sym, ap, ◌∙◌, arith}
 use Rattle.std.specs.Prelude.{nat_le}
 use Rattle.std.specs.Option.{option_map}
 use Rattle.std.proofs.lemmas.Bool.Decides.{nat_tests}
-use Rattle.std.proofs.lemmas.List.{append-nil}
+use Rattle.std.proofs.lemmas.List.{append-nil, length-map}
 use Rattle.vx_tables.specs.Counted.{Counted, both, ◌>>=◌, pure, counted, free, deeper, within, enter, enter_optional, present, each_from, one, optional_cost}
-use Rattle.vx_tables.specs.Field.{Table, ◌>>=◌ as ◌then◌}
+use Rattle.vx_tables.specs.Field.{Table, Vector, table_of_vector, ◌>>=◌ as ◌then◌}
 use Rattle.vx_tables.specs.Reader.{charge, reached, reached_optional}
 
 choice-then : {A B : Type 0} (b c : Bool) (x : A) (f : A → Option B) → (cond b (cond c (Some x) None) None then f) ≡ cond b (cond c (f x) None) None
@@ -172,3 +172,25 @@ present-is l n (Some x) = within-pure l n x
 
 -- the laws by which a walk is read step by step
 pub ruleset walk_steps = (within-bind, within-pure, within-counted, within-free, present-is, within-enter, within-enter_optional, walk_from-start, walk_from-next, walk_from-end)
+
+-- ---- lists that are seen by a view
+
+pub map_push : {A B : Type 0} (f : A → B) (xs : List A) (x : A) → map f (xs ++ x ∷ []) ≡ map f xs ++ f x ∷ []
+map_push f [] x = refl
+map_push f (y ∷ ys) x = ap (λ zs. f y ∷ zs) (map_push f ys x)
+
+-- the same, where elements are seen by a view
+pub ruleset seen_steps = (walk_steps, map_push, length-map)
+
+-- ---- a vector of tables, each read with the levels that are left
+
+-- the walk over a vector of tables goes on behind an element that was read
+pub next_element : {A : Type 0} (read : ℕ → List ℕ → Table → Option (Counted A)) (b bs : List ℕ) (v : Vector) (l j n i : ℕ) (made : List A) (t : Table) (m k : ℕ) (x : A)
+    → i < v.count → bs ≡ b → l ≡ suc j → Some (t, m) ≡ charge one (reached l (table_of_vector b v i)) n → within j m (read (suc j) bs t) ≡ Some (x, k)
+    → walk_from (λ q. enter (table_of_vector b v q) (read l b)) v.count l n i made ≡ walk_from (λ q. enter (table_of_vector b v q) (read l b)) v.count l k (i + 1) (made ++ x ∷ [])
+next_element {A = A} read b bs v l j n i made t m k x lt same level entered inside =
+    let each : ℕ → Option (Counted A) = λ q. enter (table_of_vector b v q) (read l b) in
+    let less : l - 1 ≡ j = omega (arith, level) in
+    let inner : within (l - 1) m (read l b t) ≡ Some (x, k) = ap (λ q. within q m (read l b t)) less ∙ ap (λ q. within j m (read q b t)) level ∙ ap (λ q. within j m (read (suc j) q t)) (sym same) ∙ inside in
+    let element : within l n (each i) ≡ Some (x, k) = within-enter l n (table_of_vector b v i) (read l b) ∙ ap (λ o. o then (λ p. within (l - 1) p.1 (read l b p.0))) (sym entered) ∙ inner in
+    walk_from-next each v.count l n i made lt ∙ ap (λ o. o then (λ p. walk_from each v.count l p.1 (i + 1) (made ++ p.0 ∷ []))) element

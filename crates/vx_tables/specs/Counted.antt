@@ -1,9 +1,9 @@
 -- What is read, with how much of a table root was visited for it. Limits are no part of it: they are one
 -- test at the end.
-use Rattle.std.specs.Prelude.{ℕ, zero, suc, ◌+◌, ◌-◌, ◌*◌, ◌/◌, nat_le, max, if◌then◌else◌, List, [], ◌∷◌, length, Option, Some, None}
+use Rattle.std.specs.Prelude.{ℕ, zero, suc, ◌+◌, ◌-◌, ◌*◌, ◌/◌, nat_le, max, if◌then◌else◌, List, [], ◌∷◌, length, Option, Some, None, unwrap_or}
 use Rattle.vx_tables.specs.declared.elements.Elements.{Elements}
 use Rattle.vx_tables.specs.declared.elements.Elements.TheVariants.{Numbers, Offsets, Segments}
-use Rattle.vx_tables.specs.Field.{Table, Vector, text_of_vector, table_of_vector}
+use Rattle.vx_tables.specs.Field.{Table, Vector, vector_field, text_of_vector, table_of_vector}
 
 -- a value, the visits that it took, and how many tables lie one in the other
 pub record Counted (A : Type 0) : Type 0 where
@@ -57,6 +57,21 @@ vector_cost Segments v = 1
 abbrev pub optional_cost : {A : Type 0} → (A → ℕ) → Option A → ℕ
 optional_cost cost None = 0
 optional_cost cost (Some x) = cost x
+
+-- ---- fields
+
+-- a number that is 0 where it is absent
+abbrev pub or_zero : Option ℕ → ℕ
+or_zero n = unwrap_or n 0
+
+-- the vector of a slot, with its visits
+abbrev pub vector_of : List ℕ → Table → ℕ → Elements → Option (Counted (Option Vector))
+vector_of b t k elements = counted (optional_cost (vector_cost elements)) (vector_field b t k elements)
+
+-- how many elements there are
+abbrev pub count_of : Option Vector → ℕ
+count_of None = 0
+count_of (Some v) = v.count
 
 -- ---- tables that are entered
 

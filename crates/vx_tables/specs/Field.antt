@@ -1,6 +1,6 @@
 -- What stands in a table root: partial functions on its bytes, which have no value where a position, a
 -- width, a length or UTF-8 fails. Positions count from the first byte.
-use Rattle.std.specs.Prelude.{ℕ, ◌+◌, ◌-◌, ◌*◌, ◌/◌, ◌^◌, ◌&&◌, nat_lt, nat_le, ◌==◌, if◌then◌else◌, List, length, take, drop, Option, Some, None}
+use Rattle.std.specs.Prelude.{ℕ, zero, suc, ◌+◌, ◌-◌, ◌*◌, ◌/◌, ◌^◌, ◌&&◌, nat_lt, nat_le, ◌==◌, if◌then◌else◌, List, [], ◌∷◌, length, take, drop, Option, Some, None}
 use Rattle.std.specs.Int.{Width, w16, w32, byte_len, from_le_bytes}
 use Rattle.std.specs.Str.{is_utf8}
 use Rattle.vx_tables.specs.declared.elements.Elements.{Elements}
@@ -127,3 +127,12 @@ table_of_vector b v i = element_target b v i >>= table_at b
 -- all bytes of a vector's elements
 abbrev pub element_bytes : List ℕ → Vector → Elements → List ℕ
 element_bytes b v elements = take (v.count * element_size elements) (drop v.first b)
+
+-- so many numbers of 4 bytes, one behind the other
+abbrev pub numbers_in : ℕ → List ℕ → List ℕ
+numbers_in zero cells = []
+numbers_in (suc n) cells = from_le_bytes w32 (take 4 cells) ∷ numbers_in n (drop 4 cells)
+
+-- the numbers of a vector
+abbrev pub numbers_of_vector : List ℕ → Vector → List ℕ
+numbers_of_vector b v = numbers_in v.count (element_bytes b v (Numbers 4))

@@ -4,3 +4,4 @@ pub mod Standing
 pub mod Writing
 pub mod Counted
 pub mod Reader
+pub mod Walking

@@ -19,7 +19,7 @@ pub record InVector : Type 0 where
 -- a table that is reached from another: in the same bytes, one level deeper
 pub record IsBelow (outer inner : InTable) : Type 0 where
   pub bytes : inner.bytes ≡ outer.bytes
-  pub levels : inner.levels ≡ outer.levels - 1
+  pub levels : outer.levels ≡ suc inner.levels
 
 -- a vector of a table: in the same bytes, at the same level
 pub record IsVectorOf (outer : InTable) (elements : Elements) (inner : InVector) : Type 0 where
@@ -30,7 +30,7 @@ pub record IsVectorOf (outer : InTable) (elements : Elements) (inner : InVector)
 -- a table that is an element of a vector
 pub record IsElementOf (outer : InVector) (inner : InTable) : Type 0 where
   pub bytes : inner.bytes ≡ outer.bytes
-  pub levels : inner.levels ≡ outer.levels - 1
+  pub levels : outer.levels ≡ suc inner.levels
 
 -- no table is reached where no level is left
 abbrev pub reached : ℕ → Option Table → Option Table

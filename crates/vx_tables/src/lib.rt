@@ -12,6 +12,7 @@ mod table_reader;
 mod table_writer;
 mod vector_reader;
 mod visits;
+mod walk_error;
 mod wire;
 
 pub use bad_table::BadTable;
@@ -22,6 +23,7 @@ pub use table_reader::TableReader;
 pub use table_writer::TableWriter;
 pub use vector_reader::VectorReader;
 pub use visits::Visits;
+pub use walk_error::WalkError;
 
 #[cfg(test)]
 mod tests;

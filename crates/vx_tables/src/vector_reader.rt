@@ -2,7 +2,7 @@
 ghost use Rattle.std.specs.Prelude.{◌≡◌, ◌==◌, ◌+◌, ◌≤◌, ◌<◌, IfOk, length};
 ghost use Rattle.std.specs.Result.{result_ok};
 ghost use Rattle.std.specs.Option.{option_map};
-ghost use Rattle.vx_tables.specs.Field.{vector as vector_at, element_target, text_of_vector, table_of_vector, element_bytes};
+ghost use Rattle.vx_tables.specs.Field.{vector as vector_at, element_target, text_of_vector, table_of_vector, numbers_of_vector, element_bytes};
 ghost use Rattle.vx_tables.specs.Counted.{one, text_cost, vector_cost};
 ghost use Rattle.vx_tables.specs.Reader.{IsElementOf, reached, charge, taken};
 
@@ -10,7 +10,8 @@ use crate::bad_table::BadTable;
 use crate::elements::Elements;
 use crate::table_reader::{TableReader, table_from};
 use crate::visits::Visits;
-use crate::wire::{target_from, text_from, vector_from};
+use crate::wire::{numbers_from, target_from, text_from, vector_from};
+use std::alloc::{AllocError, Global};
 use std::marker::Model;
 
 /// A vector of a root.
@@ -89,6 +90,14 @@ impl<'a> VectorReader<'a> {
     {
         let size = self.count * self.elements.size();
         &self.bytes[self.first..self.first + size]
+    }
+
+    /// The numbers that are the elements.
+    pub fn numbers(&self, alloc: Global) -> Result<Vec<u32>, AllocError>
+        requires { self.now.elements ≡ Elements.Numbers 4 }
+        ensures { IfOk result (λ numbers. numbers.items ≡ numbers_of_vector self.now.bytes self.now.vector) }
+    {
+        numbers_from(alloc, self.as_bytes(), self.count)
     }
 
     /// The place that the offset of an element leads to.

@@ -1,14 +1,15 @@
 //! What stands at the places of a table root.
 
-ghost use Rattle.std.specs.Prelude.{◌≡◌, ◌+◌, ◌*◌, ◌≤◌, OnOk, IfOk, length, List, ℕ, if◌then◌else◌, Some, None};
+ghost use Rattle.std.specs.Prelude.{◌≡◌, ◌+◌, ◌*◌, ◌≤◌, OnOk, IfOk, length, List, ℕ, if◌then◌else◌, Some, None, take, drop};
 ghost use Rattle.std.specs.Str.{is_utf8};
 ghost use Rattle.std.specs.Result.{result_ok};
 ghost use Rattle.std.specs.Option.{option_map};
-ghost use Rattle.std.specs.Int.{w8, w16, w32, w64};
-ghost use Rattle.vx_tables.specs.Field.{forward, backward, bytes as bytes_at, num, target, text, element_size, vector};
+ghost use Rattle.std.specs.Int.{w8, w16, w32, w64, from_le_bytes};
+ghost use Rattle.vx_tables.specs.Field.{forward, backward, bytes as bytes_at, num, target, text, element_size, vector, numbers_in};
 
 use crate::bad_table::BadTable;
 use crate::elements::Elements;
+use std::alloc::{AllocError, Global};
 
 /// The place `n` bytes after `at`.
 #[tactic(auto, unfolding(crate::specs::Field::forward))]
@@ -144,4 +145,36 @@ pub(crate) fn vector_from(
         Some(size) if size <= bytes.len() - first => Ok((first, count)),
         _ => Err(BadTable),
     }
+}
+
+/// The number in the first four bytes, and the bytes behind it.
+fn split_number(cells: &[u8]) -> (u32, &[u8])
+    requires { 4 ≤ length cells.now }
+    ensures number { result.0 ≡ from_le_bytes w32 (take 4 cells.now) }
+    ensures rest { result.1.now ≡ drop 4 cells.now }
+{
+    let (number, rest) = cells.split_at(4);
+    (
+        u32::from_le_bytes([number[0], number[1], number[2], number[3]]),
+        rest,
+    )
+}
+
+/// So many numbers of four bytes.
+pub(crate) fn numbers_from(
+    alloc: Global,
+    cells: &[u8],
+    count: usize,
+) -> Result<Vec<u32>, AllocError>
+    requires { count * 4 ≤ length cells.now }
+    ensures { IfOk result (λ ns. ns.items ≡ numbers_in count cells.now) }
+{
+    let mut numbers = Vec::new(alloc);
+    let mut rest = cells;
+    for at in 0..count {
+        let (number, behind) = split_number(rest);
+        numbers.push(number)?;
+        rest = behind;
+    }
+    Ok(numbers)
 }

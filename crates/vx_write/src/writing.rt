@@ -10,9 +10,7 @@ use crate::WriteError;
 use crate::column::{column_size, push_column};
 use std::alloc::{AllocError, Global};
 use vx_base::{Alignment, ByteBuffer, SegmentId, SegmentSpec, Sink, SinkError, write_flushed};
-use vx_footer::{
-    Footer, PType, SegmentSpecs, SerializeError, TextList, written_footer_is_read,
-};
+use vx_footer::{Footer, PType, SegmentSpecs, SerializeError, TextList, written_footer_is_read};
 
 /// The magic, and zeros up to the segment.
 const HEAD: &[u8] = b"VTXF\0\0\0\0";

@@ -1,4 +1,4 @@
-use Rattle.std.proofs.Common.{◌∙◌, ℕ, ◌+◌, min, ◌∷◌, [], ◌++◌, List, Option, ap}
+use Rattle.std.proofs.Common.{arith, ◌∙◌, ℕ, ◌+◌, min, ◌∷◌, [], ◌++◌, List, Option, ap}
 use Rattle.std.specs.Option.{option_map}
 use Rattle.vx_base.specs.Counts.{last_count}
 use Rattle.vx_base.specs.Openers.{Returned}
@@ -22,6 +22,6 @@ returns-clause-cause g c =
       asked = back.asked ∙ given.asked;
       returned = back.returned ∙ ap (λ (all : Option (List Returned)). option_map (λ l. l ++ record { name = name; log = served.log } ∷ []) all) given.returned;
       counted = back.counted ∙ ap (λ (n : ℕ). min (n + served.faults) last_count) given.read_faults;
-      never_falls = ?;
+      never_falls = omega (arith, c.in-Ok.ensures.same.read_never_falls, c.in_ok-take_back.ensures.same.read_never_falls);
     } in
     file-cause name c.args.script.now (opener c.args.files.now) (opener c.take_back.new.self) opened served c.serve_reader-answer.result lent c.serve_reader-answer.ensures.cause c.serve_reader-answer.ensures.read

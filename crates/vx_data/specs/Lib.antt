@@ -1,0 +1,17 @@
+pub mod Refusing
+pub mod Dtype
+pub mod DtypeTable
+pub mod Layout
+pub mod Codes
+pub mod Sizes
+pub mod LayoutTable
+pub mod Texts
+pub mod Scalar
+pub mod Stats
+pub mod Session
+pub mod StatsEntry
+pub mod StatsTable
+pub mod ChildTypes
+pub mod Written
+pub mod DtypeWritten
+pub mod LayoutWritten

@@ -1,0 +1,388 @@
+//! The program over memory: each status with its text, files that are refused, and segments far from
+//! the tail.
+use crate::memory::Left;
+use crate::run::run;
+use std::alloc::{AllocError, Global};
+use std::test::Fail;
+use vx_base::{Alignment, ByteBuffer, MemOpener, MemSink, MemSource, Mischief, MischiefKind};
+
+// A file of the four numbers 1, 2, 3 and 4.
+const FOUR: &str =
+    "56545846000000000100010000000200000003000000040000000e0000000a0007000400050006000a000000020006120000000e00120004000600000000000e000e000000000004000000000000000400000001000000000000000e0000000a001000040008000c000a0000000c0000009d000000bf0000000400000016000000300000004f0000006b00000006000800040006000000040000000b000000766f727465782e626f6f6c00060008000400060000000400000010000000766f727465782e7072696d69746976650006000800040006000000040000000d000000766f727465782e7374727563740006000800040006000000040000000d000000766f727465782e76617262696e00010000000a00000006000800040006000000040000000b000000766f727465782e666c6174000100000008000000000000001200000003000000100000000c0010000400080000000c000c000000160000002d000000440000000a00110004000c0010000a0000001a0000000000000015000000030a00110004000c0010000a0000002f000000000000002c000000030a00110004000c0010000a0000005b00000000000000ed000000030100710056545846";
+
+pub(crate) const FOUR_FOOTER: &str =
+    "rows 4\ndtype i32\nlayout 0 flat 4 0\nsegment 0 8 18 3\narray 0 vortex.bool\narray 1 vortex.primitive\narray 2 vortex.struct\narray 3 vortex.varbin\nread 0 449\n";
+
+const FAR_FOOTER: &str =
+    "rows 20000\ndtype i32\nlayout 0 flat 20000 0\nsegment 0 8 80002 3\narray 0 vortex.bool\narray 1 vortex.primitive\narray 2 vortex.struct\narray 3 vortex.varbin\nread 14898 65535\n";
+
+// Where a run's outside fails.
+#[derive(Drop)]
+struct Failing {
+    input: Vec<u64>,
+    opens: Vec<u64>,
+    reads: Vec<Mischief>,
+    output: Vec<u64>,
+}
+
+impl Failing {
+    fn nowhere(alloc: Global) -> Failing {
+        Failing {
+            input: Vec::new(alloc),
+            opens: Vec::new(alloc),
+            reads: Vec::new(alloc),
+            output: Vec::new(alloc),
+        }
+    }
+}
+
+impl Left {
+    /// Whether a run left this.
+    pub(crate) fn is(&self, status: u8, out: &str, err: &str) -> bool {
+        self.status == status
+            && self.out.as_slice() == out.as_bytes()
+            && self.err.as_slice() == err.as_bytes()
+    }
+}
+
+fn one(alloc: Global, place: u64) -> Result<Vec<u64>, AllocError> {
+    let mut places = Vec::new(alloc);
+    places.push(place)?;
+    Ok(places)
+}
+
+fn mischief(alloc: Global, at: u64, kind: MischiefKind) -> Result<Vec<Mischief>, AllocError> {
+    let mut all = Vec::new(alloc);
+    all.push(Mischief { at, kind })?;
+    Ok(all)
+}
+
+pub(crate) fn four(alloc: Global) -> Result<Vec<u8>, Fail> {
+    Ok(hex::decode(alloc, FOUR.as_bytes()).ok().ok_or("no hex")?)
+}
+
+// A run over one file, named `four`.
+fn run_over(
+    alloc: Global,
+    words: &[&str],
+    input: Vec<u8>,
+    file: Vec<u8>,
+    failing: Failing,
+) -> Result<Left, Fail> {
+    let mut given = Vec::new(alloc);
+    for word in words {
+        given.push(String::from_str(alloc, word)?)?;
+    }
+    let mut files = Vec::new(alloc);
+    files.push((
+        String::from_str(alloc, "four")?,
+        ByteBuffer::from_vec(alloc, file, Alignment::none())?,
+        failing.reads,
+    ))?;
+    let mut opener = MemOpener::new(alloc, files, failing.opens);
+    let mut input = MemSource::new(input, failing.input);
+    let mut out = MemSink::new(alloc, failing.output);
+    let mut err = MemSink::new(alloc, Vec::new(alloc));
+    let status = run(
+        alloc,
+        given.as_slice(),
+        &mut input,
+        &mut opener,
+        &mut out,
+        &mut err,
+    );
+    Ok(Left {
+        status,
+        out: out.into_bytes(),
+        err: err.into_bytes(),
+    })
+}
+
+fn serve_four(alloc: Global, script: &str, file: Vec<u8>, failing: Failing) -> Result<Left, Fail> {
+    let input = Vec::from_slice(alloc, script.as_bytes())?;
+    run_over(alloc, &["serve", "four"], input, file, failing)
+}
+
+#[test]
+fn words_that_are_no_command_are_usage(rt: HostRuntime) -> Result<(), Fail> {
+    let alloc = rt.alloc();
+    let lines: [&[&str]; 6] = [
+        &[],
+        &["serve"],
+        &["serve", "-x"],
+        &["serve", "four", "five"],
+        &["show", "four"],
+        &["--help", "four"],
+    ];
+    for words in lines {
+        let left = run_over(
+            alloc,
+            words,
+            Vec::new(alloc),
+            four(alloc)?,
+            Failing::nowhere(alloc),
+        )?;
+        assert!(rt; left.is(2, "", "vx: usage\n"));
+    }
+    Ok(())
+}
+
+#[test]
+fn the_version_is_printed(rt: HostRuntime) -> Result<(), Fail> {
+    let alloc = rt.alloc();
+    let left = run_over(
+        alloc,
+        &["--version"],
+        Vec::new(alloc),
+        four(alloc)?,
+        Failing::nowhere(alloc),
+    )?;
+    assert!(rt; left.is(0, "vx 0.1.0\n", ""));
+    Ok(())
+}
+
+#[test]
+fn scripts_outside_their_grammar_are_named_by_line(rt: HostRuntime) -> Result<(), Fail> {
+    let alloc = rt.alloc();
+    let scripts = [
+        ("x", "vx: line 1\n"),
+        ("r 0\np 00\n", "vx: line 2\n"),
+        ("r 4294967296\n", "vx: line 1\n"),
+        ("go\n\ngo\n", "vx: line 2\n"),
+        ("go \n", "vx: line 1\n"),
+        ("r 0\nr 0\n", "vx: script\n"),
+    ];
+    for (script, message) in scripts {
+        let left = serve_four(alloc, script, four(alloc)?, Failing::nowhere(alloc))?;
+        assert!(rt; left.is(3, "", message));
+    }
+    Ok(())
+}
+
+#[test]
+fn each_failing_stream_has_its_status(rt: HostRuntime) -> Result<(), Fail> {
+    let alloc = rt.alloc();
+    let mut failing = Failing::nowhere(alloc);
+    failing.input = one(alloc, 0)?;
+    let left = serve_four(alloc, "r 0\n", four(alloc)?, failing)?;
+    assert!(rt; left.is(6, "", "vx: input\n"));
+    let mut failing = Failing::nowhere(alloc);
+    failing.opens = one(alloc, 0)?;
+    let left = serve_four(alloc, "r 0\n", four(alloc)?, failing)?;
+    assert!(rt; left.is(8, "", "vx: open four\n"));
+    let mut failing = Failing::nowhere(alloc);
+    failing.reads = mischief(alloc, 0, MischiefKind::Fail)?;
+    let left = serve_four(alloc, "r 0\n", four(alloc)?, failing)?;
+    assert!(rt; left.is(5, "", "vx: read ReadFault 0 449\n"));
+    let mut failing = Failing::nowhere(alloc);
+    failing.reads = mischief(alloc, 0, MischiefKind::Size)?;
+    let left = serve_four(alloc, "r 0\n", four(alloc)?, failing)?;
+    assert!(rt; left.is(5, "", "vx: read size\n"));
+    let mut failing = Failing::nowhere(alloc);
+    failing.output = one(alloc, 0)?;
+    let left = serve_four(alloc, "r 0\n", four(alloc)?, failing)?;
+    assert!(rt; left.is(7, "", "vx: output\n"));
+    let left = run_over(
+        alloc,
+        &["serve", "lost"],
+        Vec::new(alloc),
+        four(alloc)?,
+        Failing::nowhere(alloc),
+    )?;
+    assert!(rt; left.is(8, "", "vx: open lost\n"));
+    Ok(())
+}
+
+fn line_feeds(alloc: Global, count: usize) -> Result<Vec<u8>, AllocError> {
+    vec![in alloc; b'\n'; count]
+}
+
+#[test]
+fn numbers_without_a_segment_or_a_read_are_told(rt: HostRuntime) -> Result<(), Fail> {
+    let alloc = rt.alloc();
+    let left = serve_four(
+        alloc,
+        "r 1\np 0\ngo\nr 0\np 0\np 0",
+        four(alloc)?,
+        Failing::nowhere(alloc),
+    )?;
+    let mut wanted = String::from_str(alloc, FOUR_FOOTER)?;
+    wanted.push_str(
+        "missing-segment\nnot-live\ndriven 0\nregistered 0 held\nready 010001000000020000000300000004000000\nnot-live\n",
+    )?;
+    assert!(rt; left.is(0, wanted.as_str(), ""));
+    Ok(())
+}
+
+// Bytes put over those of a file from a place on.
+fn put(bytes: &mut [u8], place: usize, new: &[u8]) {
+    let mut at = place;
+    for byte in new {
+        if let Some(old) = bytes.get_mut(at) {
+            *old = *byte;
+        }
+        at = at.saturating_add(1);
+    }
+}
+
+#[test]
+fn damaged_files_are_refused(rt: HostRuntime) -> Result<(), Fail> {
+    let alloc = rt.alloc();
+    let damages: [(usize, &[u8]); 13] = [
+        (441, &[0x02]),
+        (445, &[0x57]),
+        (443, &[0xff, 0xff]),
+        (443, &[0xf7, 0xff]),
+        (338, &[0x00]),
+        (336, &[0x00]),
+        (46, &[0x09]),
+        (411, &[0x01]),
+        (325, &[0x01]),
+        (296, &[0x77]),
+        (83, &[0x00]),
+        (324, &[0x11]),
+        (322, &[0x01]),
+    ];
+    for (place, new) in damages {
+        let mut file = four(alloc)?;
+        put(file.as_mut_slice(), place, new);
+        let left = serve_four(alloc, "r 0\np 0\n", file, Failing::nowhere(alloc))?;
+        assert!(rt; left.is(4, "", "vx: Refused\n"));
+    }
+    Ok(())
+}
+
+// The places at which a byte FF leaves the file in the grammar: those of the first magic and the segment,
+// of the sizes of tables, of the row count, and of numbers that stay small enough or are not looked at.
+const STILL_READ: [usize; 74] = [
+    0, 1, 2, 3, 4, 5, 6, 7, 8, 9, 10, 11, 12, 13, 14, 15, 16, 17, 18, 19, 20, 21, 22, 23, 24, 25,
+    32, 33, 53, 54, 59, 60, 71, 72, 73, 74, 75, 76, 77, 78, 87, 88, 89, 90, 97, 98, 143, 144, 170,
+    173, 174, 205, 208, 209, 237, 240, 241, 269, 280, 281, 307, 312, 320, 334, 335, 362, 363, 382,
+    389, 390, 409, 416, 417, 436,
+];
+
+#[test]
+fn each_byte_set_to_its_greatest_value_is_read_or_refused(rt: HostRuntime) -> Result<(), Fail> {
+    let alloc = rt.alloc();
+    for place in 0..449 {
+        let mut file = four(alloc)?;
+        put(file.as_mut_slice(), place, &[0xff]);
+        let left = serve_four(alloc, "r 0\n", file, Failing::nowhere(alloc))?;
+        if STILL_READ.as_slice().contains(&place) {
+            assert_eq!(rt; left.status, 0);
+        } else {
+            assert!(rt; left.is(4, "", "vx: Refused\n"));
+        }
+    }
+    Ok(())
+}
+
+#[test]
+fn each_prefix_of_a_file_is_refused(rt: HostRuntime) -> Result<(), Fail> {
+    let alloc = rt.alloc();
+    let whole = four(alloc)?;
+    for length in 0..449 {
+        let part = whole.as_slice().get(..length).ok_or("no prefix")?;
+        let file = Vec::from_slice(alloc, part)?;
+        let left = serve_four(alloc, "r 0\n", file, Failing::nowhere(alloc))?;
+        assert!(rt; left.is(4, "", "vx: Refused\n"));
+    }
+    Ok(())
+}
+
+#[test]
+fn short_files_without_magic_are_refused(rt: HostRuntime) -> Result<(), Fail> {
+    let alloc = rt.alloc();
+    for length in [0, 7, 8] {
+        let left = serve_four(
+            alloc,
+            "r 0\n",
+            line_feeds(alloc, length)?,
+            Failing::nowhere(alloc),
+        )?;
+        assert!(rt; left.is(4, "", "vx: Refused\n"));
+    }
+    Ok(())
+}
+
+// A file of the same form whose segment 0 has this many bytes, each a line feed; its tables name this
+// many rows.
+fn file_of(alloc: Global, rows: u32, length: u32) -> Result<Vec<u8>, Fail> {
+    let form = four(alloc)?;
+    let mut file = Vec::from_slice(alloc, form.as_slice().get(..8).ok_or("no front")?)?;
+    for _ in 0..length {
+        file.push(b'\n')?;
+    }
+    let behind = file.len();
+    let mut tables = Vec::from_slice(alloc, form.as_slice().get(26..).ok_or("no tables")?)?;
+    put(tables.as_mut_slice(), 71 - 26, &rows.to_le_bytes());
+    put(tables.as_mut_slice(), 320 - 26, &length.to_le_bytes());
+    for (place, distance) in [(374, 0), (401, 21), (428, 65)] {
+        let offset = (behind as u64).saturating_add(distance);
+        put(tables.as_mut_slice(), place - 26, &offset.to_le_bytes());
+    }
+    file.extend_from_slice(tables.as_slice())?;
+    Ok(file)
+}
+
+#[test]
+fn a_segment_outside_the_tail_is_driven(rt: HostRuntime) -> Result<(), Fail> {
+    let alloc = rt.alloc();
+    let left = serve_four(
+        alloc,
+        "r 0\ngo\np 0\ngo\np 0\n",
+        file_of(alloc, 20_000, 80_002)?,
+        Failing::nowhere(alloc),
+    )?;
+    let mut wanted = String::from_str(alloc, FAR_FOOTER)?;
+    wanted.push_str("registered 0\ndriven 0\npending\ndriven 1\nspan 8 80010 ok 0\nready ")?;
+    for _ in 0..80_002 {
+        wanted.push_str("0a")?;
+    }
+    wanted.push_str("\n")?;
+    assert!(rt; left.is(0, wanted.as_str(), ""));
+    Ok(())
+}
+
+#[test]
+fn a_failed_span_fails_its_read_alone(rt: HostRuntime) -> Result<(), Fail> {
+    let alloc = rt.alloc();
+    let mut failing = Failing::nowhere(alloc);
+    failing.reads = mischief(alloc, 1, MischiefKind::Fail)?;
+    let left = serve_four(
+        alloc,
+        "r 0\ngo\np 0\ngo\np 0\np 0\n",
+        file_of(alloc, 20_000, 80_002)?,
+        failing,
+    )?;
+    let mut wanted = String::from_str(alloc, FAR_FOOTER)?;
+    wanted.push_str(
+        "registered 0\ndriven 0\npending\ndriven 1\nspan 8 80010 ReadFault 0\nfailed ReadFault 8 80002\nnot-live\n",
+    )?;
+    assert!(rt; left.is(0, wanted.as_str(), ""));
+    Ok(())
+}
+
+// Whether the text of a run ends so.
+fn ends_with(left: &Left, text: &str) -> bool {
+    left.status == 0 && left.out.as_slice().ends_with(text.as_bytes())
+}
+
+#[test]
+fn a_segment_is_held_from_the_start_of_the_tail_on(rt: HostRuntime) -> Result<(), Fail> {
+    let alloc = rt.alloc();
+    let cases = [
+        (65_112, "read 8 65535\nregistered 0 held\n"),
+        (65_113, "read 9 65535\nregistered 0\n"),
+    ];
+    for (length, end) in cases {
+        let left = serve_four(
+            alloc,
+            "r 0",
+            file_of(alloc, 16_277, length)?,
+            Failing::nowhere(alloc),
+        )?;
+        assert!(rt; ends_with(&left, end));
+    }
+    Ok(())
+}
