@@ -33,7 +33,8 @@ fn read_next<R: Reader>(
     reader: &mut R,
     session: &mut Session,
 ) -> Result<Option<Span>, AllocError>
-    ensures turned { IfOk result (λ o. IfSome o (λ span. (w : World) (past : List Moment) → (R.state reader.old).bytes ≡ Some w.file → Stands w past session.old →
+    ensures turned { IfOk result (λ o. IfSome o (λ span. (w : World) (past : List Moment) → (R.state reader.old).bytes ≡ Some w.file →
+        Stands w past session.old →
         Turned w past (R.state reader.old) (R.state reader.new) span session.new)) }
     ensures stopped { OnErr result ((w : World) (past : List Moment) → (R.state reader.old).bytes ≡ Some w.file → Stands w past session.old →
         (further : Log) × IsFurther w past further × Grew further (R.state reader.old).log (R.state reader.new).log) }
@@ -43,7 +44,8 @@ fn read_next<R: Reader>(
         (R.state reader.new))) }
     ensures smaller { IfOk result (λ o. IfSome o (λ _. count_due session.new.requests < count_due session.old.requests)) }
     ensures tail { KeepsTail session.old session.new }
-    ensures steady { (w : World) (past : List Moment) → (R.state reader.old).never_fails ≡ true → (R.state reader.old).bytes ≡ Some w.file → IsInFile w → Stands w past session.old → (R.state reader.new).faults ≡ (R.state reader.old).faults }
+    ensures steady { (w : World) (past : List Moment) → (R.state reader.old).never_fails ≡ true → (R.state reader.old).bytes ≡ Some w.file →
+        IsInFile w → Stands w past session.old → (R.state reader.new).faults ≡ (R.state reader.old).faults }
     ensures same { SameReader (R.state reader.old) (R.state reader.new) }
 {
     let Some((number, spec, end)) = session.next() else {
@@ -80,7 +82,8 @@ pub(crate) fn drive<R: Reader>(
     ensures stopped { OnErr result ((w : World) (past : List Moment) → (R.state reader.old).bytes ≡ Some w.file → Stands w past session.old →
         (gained : Log) × StopsDrive w past gained × Grew gained (R.state reader.old).log (R.state reader.new).log) }
     ensures tail { KeepsTail session.old session.new }
-    ensures steady { (w : World) (past : List Moment) → (R.state reader.old).never_fails ≡ true → (R.state reader.old).bytes ≡ Some w.file → IsInFile w → Stands w past session.old → (R.state reader.new).faults ≡ (R.state reader.old).faults }
+    ensures steady { (w : World) (past : List Moment) → (R.state reader.old).never_fails ≡ true → (R.state reader.old).bytes ≡ Some w.file →
+        IsInFile w → Stands w past session.old → (R.state reader.new).faults ≡ (R.state reader.old).faults }
     ensures same { SameReader (R.state reader.old) (R.state reader.new) }
 {
     let mut spans = Sequence::new(alloc);

@@ -28,7 +28,8 @@ pub(crate) struct Tail {
 fn read_tail<R: Reader>(alloc: Global, reader: &mut R) -> Result<Tail, ServeError>
     ensures cause { (file : List ℕ) → (R.state reader.old).bytes ≡ Some file → TailCause file (R.state reader.old) (R.state reader.new) result }
     ensures rose { TailRose (R.state reader.old) (R.state reader.new) result }
-    ensures steady { (file : List ℕ) → (R.state reader.old).never_fails ≡ true → (R.state reader.old).bytes ≡ Some file → (R.state reader.new).faults ≡ (R.state reader.old).faults }
+    ensures steady { (file : List ℕ) → (R.state reader.old).never_fails ≡ true → (R.state reader.old).bytes ≡ Some file →
+        (R.state reader.new).faults ≡ (R.state reader.old).faults }
     ensures bound { IfOk result (λ t. t.start + length t.bytes.bytes < 2 ^ 64) }
     ensures same { SameReader (R.state reader.old) (R.state reader.new) }
 {
@@ -75,9 +76,11 @@ pub fn serve<R: Reader>(
     ensures cause { (file : List ℕ) → (R.state reader.old).bytes ≡ Some file → HasCause file script.now (R.state reader.old) (R.state reader.new) result }
     ensures fault { FaultRose (R.state reader.old) (R.state reader.new) result }
     // A file of the grammar is served where the reader's count stands still.
-    ensures served { (file : List ℕ) → (R.state reader.old).bytes ≡ Some file → IsOk (vx_grammar file) → StandsStill (R.state reader.old) (R.state reader.new) → Succeeds result }
+    ensures served { (file : List ℕ) → (R.state reader.old).bytes ≡ Some file → IsOk (vx_grammar file) →
+        StandsStill (R.state reader.old) (R.state reader.new) → Succeeds result }
     // The count of a reader that never fails stands still.
-    ensures steady { (file : List ℕ) → (R.state reader.old).never_fails ≡ true → (R.state reader.old).bytes ≡ Some file → (R.state reader.new).faults ≡ (R.state reader.old).faults }
+    ensures steady { (file : List ℕ) → (R.state reader.old).never_fails ≡ true → (R.state reader.old).bytes ≡ Some file →
+        (R.state reader.new).faults ≡ (R.state reader.old).faults }
     ensures same { SameReader (R.state reader.old) (R.state reader.new) }
 {
     let tail = read_tail(alloc, reader)?;

@@ -24,12 +24,15 @@ fn answer_step<R: Reader>(
     step: Step,
 ) -> Result<Reply, AllocError>
     requires { All (EndsWithin (session.old.start + length session.old.tail.bytes)) segments.now }
-    ensures replied { IfOk result (λ reply. (w : World) (past : List Moment) → (R.state reader.old).bytes ≡ Some w.file → w.table ≡ segments.now → Stands w past session.old →
+    ensures replied { IfOk result (λ reply. (w : World) (past : List Moment) → (R.state reader.old).bytes ≡ Some w.file → w.table ≡ segments.now →
+        Stands w past session.old →
         Replied w past step (R.state reader.old) (R.state reader.new) reply session.new) }
-    ensures stopped { OnErr result ((w : World) (past : List Moment) → (R.state reader.old).bytes ≡ Some w.file → w.table ≡ segments.now → Stands w past session.old →
+    ensures stopped { OnErr result ((w : World) (past : List Moment) → (R.state reader.old).bytes ≡ Some w.file → w.table ≡ segments.now →
+        Stands w past session.old →
         (gained : Log) × StopsStep w past step gained × Grew gained (R.state reader.old).log (R.state reader.new).log) }
     ensures tail { KeepsTail session.old session.new }
-    ensures steady { (w : World) (past : List Moment) → (R.state reader.old).never_fails ≡ true → (R.state reader.old).bytes ≡ Some w.file → IsInFile w → Stands w past session.old → (R.state reader.new).faults ≡ (R.state reader.old).faults }
+    ensures steady { (w : World) (past : List Moment) → (R.state reader.old).never_fails ≡ true → (R.state reader.old).bytes ≡ Some w.file →
+        IsInFile w → Stands w past session.old → (R.state reader.new).faults ≡ (R.state reader.old).faults }
     ensures same { SameReader (R.state reader.old) (R.state reader.new) }
 {
     match step {
@@ -55,7 +58,8 @@ pub(crate) fn answer_steps<R: Reader>(
         Answered w script.now (R.state reader.old) (R.state reader.new) replies) }
     ensures stopped { OnErr result ((w : World) → (R.state reader.old).bytes ≡ Some w.file → w.table ≡ segments.now → Stands w [] session.old →
         (gained : Log) × Stops w script.now gained × Grew gained (R.state reader.old).log (R.state reader.new).log) }
-    ensures steady { (w : World) → (R.state reader.old).never_fails ≡ true → (R.state reader.old).bytes ≡ Some w.file → w.table ≡ segments.now → IsInFile w → Stands w [] session.old → (R.state reader.new).faults ≡ (R.state reader.old).faults }
+    ensures steady { (w : World) → (R.state reader.old).never_fails ≡ true → (R.state reader.old).bytes ≡ Some w.file → w.table ≡ segments.now →
+        IsInFile w → Stands w [] session.old → (R.state reader.new).faults ≡ (R.state reader.old).faults }
     ensures same { SameReader (R.state reader.old) (R.state reader.new) }
 {
     let mut replies = Sequence::new(alloc);

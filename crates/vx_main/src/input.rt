@@ -40,7 +40,8 @@ fn take_some<I: Source>(
     piece: &mut [u8],
     text: &mut Vec<u8>,
 ) -> Result<usize, InputError>
-    ensures told { IfOk result (λ n. (r : List ℕ) → (I.state input.old).rest ≡ Some r → (n ≤ length r) × ((I.state input.new).rest ≡ Some (drop n r)) × (text.new.items ≡ text.old.items ++ take n r)) }
+    ensures told { IfOk result (λ n. (r : List ℕ) → (I.state input.old).rest ≡ Some r → (n ≤ length r) ×
+        ((I.state input.new).rest ≡ Some (drop n r)) × (text.new.items ≡ text.old.items ++ take n r)) }
     ensures end { IfOk result (λ n. (r : List ℕ) → n ≡ 0 → 0 < length piece.old → (I.state input.old).rest ≡ Some r → r ≡ []) }
     ensures bound { IfOk result (λ n. (n ≤ length piece.old) × (vec_len text.new ≡ vec_len text.old + n)) }
     ensures failed { result ≡ Err errors.Failed → Rises 1 ((I.state input.old).faults) ((I.state input.new).faults) }

@@ -5,6 +5,8 @@ mod command;
 mod demo;
 #[cfg(test)]
 mod demo_tests;
+#[cfg(test)]
+mod example;
 mod failure;
 mod input;
 mod memory;

@@ -20,7 +20,7 @@ fn repeated(alloc: Global, start: &str, line: &str) -> Result<Vec<u8>, Fail> {
     Ok(text)
 }
 
-fn path_of(rt: &HostRuntime, name: &str) -> Result<String, Fail> {
+pub(crate) fn path_of(rt: &HostRuntime, name: &str) -> Result<String, Fail> {
     Ok(format!(in rt.alloc();
         "/tmp/vx_main_test_{}_{}",
         std::process::id(rt.process()),
