@@ -6,7 +6,7 @@ home=$(cd "$(dirname "$0")/.." && pwd)
 script=$(mktemp)
 trap 'rm -f "$script"' EXIT
 awk 'BEGIN { for (number = 0; number < 200000; number++) printf "r %d\np %d\ngo\n", number, number }' >"$script"
-"$home/vx" --version >/dev/null
+"$home/build" >&2
 start=$(date +%s%N)
 "$home/vx" serve "$home/crates/vx_main/data/four.vortex" <"$script" | tail -n 1
 end=$(date +%s%N)
