@@ -2,8 +2,6 @@
 #![tactic(auto)]
 
 mod drive;
-#[cfg(test)]
-mod example;
 mod memory;
 mod queue;
 mod reading;
