@@ -14,11 +14,12 @@ TAIL = 65_535
 MOST_DEPTH = 64
 MOST_VISITS = 1_000_000
 MOST_EXPONENT = 16
-MOST_IDS = 16
 MAGIC = b"VTXF"
-INTEGER = 2
+# for each version: how many metadata entries, and how long their keys
+METADATA = {1: (16, 64), 2: (64, 256)}
+BOOL, INTEGER, TEXT, STRUCT = 1, 2, 3, 4
 INTEGER_TYPES = ("u8", "u16", "u32", "u64", "i8", "i16", "i32", "i64")
-LAYOUTS = ("vortex.flat", "vortex.chunked", "vortex.struct")
+KINDS = {"vortex.flat": "flat", "vortex.chunked": "chunked", "vortex.struct": "struct"}
 PLAIN = frozenset(b"ABCDEFGHIJKLMNOPQRSTUVWXYZabcdefghijklmnopqrstuvwxyz0123456789_.-")
 
 
@@ -62,6 +63,11 @@ class Root:
         """Where the offset at a place leads."""
         return place + self.number(place, 4)
 
+    def text(self, place):
+        found = self.bytes_at(place + 4, self.number(place, 4))
+        self.visit(1 + len(found) // 64)
+        return words(found)
+
     def root_table(self):
         return Table(self, self.target(0), 1)
 
@@ -102,14 +108,16 @@ class Table:
     def text(self, index):
         """A text, or None where it is absent."""
         place = self.target(index)
-        if place is None:
-            return None
-        found = self.root.bytes_at(place + 4, self.root.number(place, 4))
-        self.root.visit(1 + len(found) // 64)
-        try:
-            return found.decode("utf-8")
-        except UnicodeDecodeError:
-            raise Unreadable from None
+        return None if place is None else self.root.text(place)
+
+    def texts(self, index):
+        """The texts of a vector; none where it is absent."""
+        return [self.root.text(self.root.target(place)) for place in self.vector(index, 4) or ()]
+
+    def run(self, index):
+        """The bytes of a vector of bytes, or None where it is absent."""
+        places = self.vector(index, 1, are_numbers=True)
+        return None if places is None else self.root.bytes_at(places.start, len(places))
 
     def table(self, index):
         """A table, or None where it is absent."""
@@ -132,6 +140,13 @@ class Table:
             yield Table(self.root, self.root.target(place), self.depth + 1)
 
 
+def words(found):
+    try:
+        return found.decode("utf-8")
+    except UnicodeDecodeError:
+        raise Unreadable from None
+
+
 def required(value):
     if value is None:
         raise Unreadable
@@ -152,6 +167,9 @@ class Locator:
     def __init__(self, offset, length, exponent, is_coded):
         self.offset, self.length, self.exponent, self.is_coded = offset, length, exponent, is_coded
 
+    def end(self):
+        return self.offset + self.length
+
 
 def locator(table):
     if table is None:
@@ -164,19 +182,96 @@ def locator(table):
 def postscript(table):
     dtype, layout = locator(table.table(0)), required(locator(table.table(1)))
     statistics, footer = locator(table.table(2)), required(locator(table.table(3)))
-    return dtype, layout, statistics, footer, len(table.vector(4, 4) or ())
+    metadata = [(required(entry.text(0)), required(locator(entry.table(1)))) for entry in table.tables(4)]
+    return dtype, layout, statistics, footer, metadata
 
 
-def dtype(table):
-    kind, nullable, integer = (table.number(index, 1) or 0 for index in (0, 1, 2))
-    nested = [table.vector(index, 4) for index in (3, 4)]
-    return kind, nullable, integer, nested != [None, None]
+class DType:
+    """A type. Its text is None where a kind in it is not known."""
+
+    def __init__(self, table):
+        self.kind, self.is_nullable = table.number(0, 1) or 0, (table.number(1, 1) or 0) != 0
+        self.integer = (table.number(2, 1) or 0) if self.kind == INTEGER else 0
+        self.names, self.fields = table.texts(3), [DType(inner) for inner in table.tables(4)]
+        if len(self.names) != len(self.fields):
+            raise Unreadable
+        texts = [field.text for field in self.fields]
+        self.text = None if None in texts or self.word() is None else self.word() + "?" * self.is_nullable
+
+    def word(self):
+        if self.kind == INTEGER:
+            return INTEGER_TYPES[self.integer] if self.integer < 8 else None
+        fields = ",".join(f"{quoted(name)}:{field.text}" for name, field in zip(self.names, self.fields))
+        return {BOOL: "bool", TEXT: "text", STRUCT: "{" + fields + "}"}.get(self.kind)
+
+    def columns(self):
+        return self.fields if self.kind == STRUCT else [self]
 
 
-def layout(table):
-    encoding, rows = table.number(0, 2) or 0, table.number(1, 8) or 0
-    children, segments = table.vector(3, 4) or (), table.vector(4, 4, are_numbers=True) or ()
-    return encoding, rows, len(children), [table.root.number(place, 4) for place in segments]
+class Layout:
+    """A layout as its table has it, whose encoding is below so many."""
+
+    def __init__(self, table, most):
+        self.encoding, self.rows = table.number(0, 2) or 0, table.number(1, 8) or 0
+        self.children = [Layout(inner, most) for inner in table.tables(3)]
+        places = table.vector(4, 4, are_numbers=True) or ()
+        self.segments = [table.root.number(place, 4) for place in places]
+        if self.encoding >= most:
+            raise Unreadable
+
+    def encodings(self):
+        return {self.encoding}.union(*(child.encodings() for child in self.children))
+
+    def fits(self, kinds, dtype):
+        kind, rows = kinds[self.encoding], [child.rows for child in self.children]
+        if kind == "flat":
+            return not self.children and len(self.segments) == 1
+        if kind == "chunked":
+            below, adds_up = [dtype] * len(rows), sum(rows) == self.rows
+        else:
+            below = [VALIDITY] * dtype.is_nullable + dtype.fields
+            adds_up = dtype.kind == STRUCT and all(count == self.rows for count in rows)
+        return (
+            len(below) == len(rows)
+            and not self.segments
+            and adds_up
+            and all(child.fits(kinds, of) for child, of in zip(self.children, below))
+        )
+
+    def lines(self, kinds, depth):
+        yield " ".join(map(str, ["layout", depth, kinds[self.encoding], self.rows, *self.segments]))
+        for child in self.children:
+            yield from child.lines(kinds, depth + 1)
+
+
+def statistics(table):
+    return [
+        (set.run(0), set.number(1, 1), set.run(2), set.number(3, 1), set.number(4, 8), set.number(5, 1))
+        for set in table.tables(0)
+    ]
+
+
+def scalar(dtype, found):
+    """The text of a value."""
+    if dtype.kind == TEXT:
+        return quoted(words(found))
+    if dtype.kind == BOOL:
+        if found not in (b"\0", b"\1"):
+            raise Unreadable
+        return "true" if found == b"\1" else "false"
+    if len(found) != 1 << dtype.integer % 4:
+        raise Unreadable
+    return str(int.from_bytes(found, "little", signed=dtype.integer >= 4))
+
+
+def stats_line(number, dtype, entry):
+    def bound(found, precision):
+        if found is None or dtype.kind == STRUCT:
+            return "."
+        return ("=" if precision == 1 else "?") + scalar(dtype, found)
+
+    nulls = "." if entry[4] is None else ("=" if entry[5] == 1 else "?") + str(entry[4])
+    return f"stats {number} {bound(*entry[:2])} {bound(*entry[2:4])} {nulls}"
 
 
 def footer(table):
@@ -193,54 +288,91 @@ def footer(table):
 # ---- opening
 
 
-def footer_text(size, tail):
-    """What is printed for a file of this size that ends in these bytes, which were read."""
-    start = size - len(tail)
+def tail_checks(size, tail):
+    """Where the tables and the metadata lie, by the checks on the last bytes of a file."""
     check(size >= 8, "TooSmall")
     version, length = (int.from_bytes(tail[-8 + at : -6 + at], "little") for at in (0, 2))
     check(tail[-4:] == MAGIC, "BadMagic")
-    check(version == 1, "BadVersion")
+    check(version in METADATA, "BadVersion")
     check(length <= 65_527, "PostscriptTooLong")
     check(length + 8 <= size, "TooSmall")
-
-    places = read(postscript, tail[len(tail) - 8 - length : -8], "BadTable(Postscript)")
-    (of_dtype, of_layout, of_statistics, of_footer), entries = places[:4], places[4]
-    there = [place for place in places[:4] if place is not None]
-    check(not any(place.is_coded for place in there), "Unsupported")
-    check(of_statistics is None and entries == 0, "Unsupported")
+    *places, metadata = read(postscript, tail[len(tail) - 8 - length : -8], "BadTable(Postscript)")
+    there = [place for place in places if place is not None]
+    check(not any(place.is_coded for place in there + [place for _, place in metadata]), "Unsupported")
+    check(len(metadata) <= METADATA[version][0], "TooManyMetadata")
+    keys = set()
+    for key, place in metadata:
+        check(place.exponent <= MOST_EXPONENT, "BadAlignment")
+        check(key, "EmptyKey")
+        check(len(key.encode()) <= METADATA[version][1], "LongKey")
+        check(key not in keys, "DuplicateKey")
+        keys.add(key)
     check(all(place.exponent <= MOST_EXPONENT for place in there), "BadAlignment")
-    check(of_dtype is not None, "MissingDType")
-    check(min(place.offset for place in there) >= start, "Unsupported")
+    check(places[0] is not None, "MissingDType")
+    return places, metadata
+
+
+def footer_text(file, size):
+    """What is printed for a file of this size."""
+
+    def cut(offset, length):
+        file.seek(offset)
+        return file.read(length)
+
+    start = max(size - TAIL, 0)
+    ranges = [(start, size - start)]
+    (of_dtype, of_layout, of_statistics, of_footer), metadata = tail_checks(size, cut(*ranges[0]))
+    least = min(place.offset for place in (of_dtype, of_layout, of_statistics, of_footer) if place is not None)
+    if least < start:
+        ranges.append((least, start - least))
 
     def piece(place):
-        check(place.offset + place.length <= size, "OutOfBounds")
-        return tail[place.offset - start : place.offset - start + place.length]
+        check(place.end() <= size, "OutOfBounds")
+        return cut(place.offset, place.length)
 
-    kind, nullable, integer, is_nested = read(dtype, piece(of_dtype), "BadTable(DType)")
-    check(kind == INTEGER and nullable == 0 and not is_nested and integer < 8, "Unsupported")
+    dtype = read(DType, piece(of_dtype), "BadTable(DType)")
+    check(dtype.text is not None, "Unsupported")
+    stats = []
+    if of_statistics is not None:
+        entries = read(statistics, piece(of_statistics), "BadTable(Statistics)")
+        check(len(entries) == len(dtype.columns()), "StatsCount")
+        try:
+            stats = [stats_line(number, *set) for number, set in enumerate(zip(dtype.columns(), entries))]
+        except Unreadable:
+            raise Refused("BadTable(Statistics)") from None
+    check(all(place.offset % (1 << place.exponent) == 0 for _, place in metadata), "BadAlignment")
     footer_data, layout_data = piece(of_footer), piece(of_layout)
     arrays, layouts, segments = read(footer, footer_data, "BadTable(Footer)")
-    check(segments and not segments[0].is_coded, "Unsupported")
-    encoding, rows, children, numbers = read(layout, layout_data, "BadTable(Layout)")
-    check(encoding < len(layouts), "BadTable(Layout)")
-    check(layouts[encoding] in LAYOUTS, "UnknownEncoding")
-    check(layouts[encoding] == "vortex.flat", "Unsupported")
-    check(children == 0 and len(numbers) == 1, "BadTable(Layout)")
-    check(len(arrays) <= MOST_IDS and len(layouts) <= MOST_IDS and len(segments) == 1, "Unsupported")
-    segment = segments[0]
-    check(segment.exponent <= MOST_EXPONENT, "BadAlignment")
-    check(segment.offset + segment.length <= size, "PastEnd")
+    check(not any(segment.is_coded for segment in segments), "Unsupported")
+    layout = read(lambda table: Layout(table, len(layouts)), layout_data, "BadTable(Layout)")
+    kinds = [KINDS.get(id) for id in layouts]
+    check(all(kinds[encoding] for encoding in layout.encodings()), "UnknownEncoding")
+    check(layout.fits(kinds, dtype), "BadTable(Layout)")
+    check(all(segment.exponent <= MOST_EXPONENT for segment in segments), "BadAlignment")
+    check(all(one.offset <= next.offset for one, next in zip(segments, segments[1:])), "Unordered")
+    check(all(place.end() <= size for place in segments + [place for _, place in metadata]), "PastEnd")
 
-    lines = [f"rows {rows}", f"dtype {INTEGER_TYPES[integer]}", f"layout 0 flat {rows} {numbers[0]}"]
-    lines += [f"segment 0 {segment.offset} {segment.length} {segment.exponent}"]
+    lines = [f"rows {layout.rows}", f"dtype {dtype.text}", *layout.lines(kinds, 0)]
+    lines += [f"segment {number} {at.offset} {at.length} {at.exponent}" for number, at in enumerate(segments)]
+    lines += stats
     lines += [f"array {number} {quoted(id)}" for number, id in enumerate(arrays)]
-    lines += [f"read {start} {len(tail)}"]
+    lines += [f"meta {quoted(key)} {at.offset} {at.length} {at.exponent}" for key, at in metadata]
+    lines += [f"read {offset} {length}" for offset, length in ranges]
     return "".join(f"{line}\n" for line in lines)
 
 
 def quoted(text):
     """Text in which all but letters, digits, `_`, `.` and `-` is `%XX`; the empty one is `%`."""
     return "".join(chr(byte) if byte in PLAIN else f"%{byte:02X}" for byte in text.encode()) or "%"
+
+
+class Validity:
+    """The type of which rows are there: a truth value that is not null."""
+
+    kind, is_nullable, fields = BOOL, False, []
+
+
+VALIDITY = Validity()
 
 
 def main(arguments):
@@ -253,14 +385,11 @@ def main(arguments):
         print(f"vx: open {arguments[0]}", file=sys.stderr)
         return 8
     with file:
-        size = os.fstat(file.fileno()).st_size
-        file.seek(max(size - TAIL, 0))
-        tail = file.read(TAIL)
-    try:
-        sys.stdout.write(footer_text(size, tail))
-    except Refused:
-        print("vx: Refused", file=sys.stderr)
-        return 4
+        try:
+            sys.stdout.write(footer_text(file, os.fstat(file.fileno()).st_size))
+        except Refused as refusal:
+            print(f"vx: {refusal}", file=sys.stderr)
+            return 4
     return 0
 
 

@@ -80,12 +80,14 @@ after_size r = record r { sizes = next_count r.sizes; faults = faults_after (fai
 
 -- what a call for a clone answers and leaves: a clone has no mischief
 pub record MemClones (before now : MemReaderState) (result : Result MemReaderState CloneError) : Type 0 where
-  pub clone : IfOk result (λ r. (fails_clone before.mischief before.clones ≡ false) × (r ≡ new_reader before.bytes before.distance before.max_read_size before.concurrency []))
+  pub clone : IfOk result (λ r. (fails_clone before.mischief before.clones ≡ false) ×
+      (r ≡ new_reader before.bytes before.distance before.max_read_size before.concurrency []))
   pub failed : result ≡ Err clone_error.Failed → fails_clone before.mischief before.clones ≡ true
   pub after : now ≡ record before { clones = next_count before.clones; faults = faults_after (fails_clone before.mischief before.clones) before.faults }
 
 -- what a call for ranges answers and leaves
-pub record MemReads {E : Type 0} (ranges : List ReadAtRequest) (before now : MemReaderState) (result : Result (Vec (RangeAnswer Buffer) Global) E) : Type 0 where
+pub record MemReads {E : Type 0} (ranges : List ReadAtRequest) (before now : MemReaderState)
+    (result : Result (Vec (RangeAnswer Buffer) Global) E) : Type 0 where
   pub answers : IfOk result (λ all. all.items ≡ answers_of before.bytes before.mischief (length before.log) ranges)
   pub mischief : now.mischief ≡ before.mischief
   pub sizes : now.sizes ≡ before.sizes

@@ -59,14 +59,16 @@ pub record SizeCause (before now : ReaderState) (size : Result ℕ Failed) : Typ
 -- The answers to ranges: each that has as many bytes as it names has those of its range. The log gained the
 -- ranges, each with the mark that its answer gives it; without memory it gained them with any marks, or
 -- nothing. Each range that got no bytes of its length counts as a fault.
-pub record RangesCause {E : Type 0} (ranges : List ReadAtRequest) (before now : ReaderState) (answers : Result (Vec (RangeAnswer Buffer) Global) E) : Type 0 where
+pub record RangesCause {E : Type 0} (ranges : List ReadAtRequest) (before now : ReaderState)
+    (answers : Result (Vec (RangeAnswer Buffer) Global) E) : Type 0 where
   pub log : IfOk answers (λ all. now.log ≡ option_map (λ l. l ++ logged ranges all.items) before.log)
   pub memory : OnErr answers (GrewOrStayed ranges before.log now.log)
   pub rises : IfOk answers (λ all. Rises (faulted (logged ranges all.items)) before.faults now.faults)
   pub slices : IfOk answers (λ all. (b : List ℕ) → before.bytes ≡ Some b → All (IsTrueTo b) all.items)
   pub told : before.never_fails ≡ true → IsSome before.bytes
   pub sound : (b : List ℕ) → before.never_fails ≡ true → before.bytes ≡ Some b → All (IsInside b) ranges → now.faults ≡ before.faults
-  pub complete : IfOk answers (λ all. (b : List ℕ) → before.never_fails ≡ true → before.bytes ≡ Some b → All (IsInside b) ranges → faulted (logged ranges all.items) ≡ 0)
+  pub complete : IfOk answers (λ all. (b : List ℕ) → before.never_fails ≡ true → before.bytes ≡ Some b → All (IsInside b) ranges →
+      faulted (logged ranges all.items) ≡ 0)
 
 -- a reader of the same bytes with the same settings, which was asked nothing and has no faults
 pub record IsClone (before clone : ReaderState) : Type 0 where

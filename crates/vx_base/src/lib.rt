@@ -4,11 +4,11 @@
 
 mod alignment;
 mod answer;
-mod answers;
 mod buffer;
 mod fault;
 mod file_reader;
 mod matching;
+mod mem_answers;
 mod mem_opener;
 mod mem_reader;
 mod mem_stream;

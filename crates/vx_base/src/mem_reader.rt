@@ -6,8 +6,8 @@ ghost use Rattle.vx_base.specs.Memory.{MemReaderState, reader_state, new_reader,
 ghost use Rattle.vx_base.specs.Mischiefs.{is_well_behaved, answers_of};
 ghost use Rattle.vx_base.specs.Readers.{SizeCause, RangesCause, CloneCause, SameReader};
 
-use crate::answers::push_turn;
 use crate::matching::count_faulted;
+use crate::mem_answers::push_turn;
 use crate::mischief::{fails_clone, fails_size};
 use crate::{
     Asked, ByteBuffer, CloneError, Failed, Mischief, RangeAnswer, ReadAtRequest, Reader,

@@ -84,7 +84,14 @@ impl Model for MemSink {
 
     ghost Value = { MemSinkState };
 
-    ghost view = { λ s. record { gained = s.bytes.items; is_flushed = s.is_flushed; fail = s.fail.items; calls = s.calls; faults = s.faults; memory_faults = s.memory_faults } };
+    ghost view = { λ s. record {
+      gained = s.bytes.items;
+      is_flushed = s.is_flushed;
+      fail = s.fail.items;
+      calls = s.calls;
+      faults = s.faults;
+      memory_faults = s.memory_faults;
+    } };
 }
 
 impl MemSink {

@@ -76,7 +76,14 @@ entry_in b t = do
   max_precision ← free (field w8 b t 3)
   null_count ← free (field w64 b t 4)
   null_precision ← free (field w8 b t 5)
-  pure (record { min = min; is_min_exact = is_exact min_precision; max = max; is_max_exact = is_exact max_precision; null_count = null_count; is_null_count_exact = is_exact null_precision })
+  pure (record {
+    min = min;
+    is_min_exact = is_exact min_precision;
+    max = max;
+    is_max_exact = is_exact max_precision;
+    null_count = null_count;
+    is_null_count_exact = is_exact null_precision;
+  })
 
 unfoldable pub entries_in : List ℕ → Table → Option (Counted (List Entry))
 entries_in b t = do

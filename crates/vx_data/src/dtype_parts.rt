@@ -89,7 +89,8 @@ fn fields_of(
     dtypes: Vec<Option<DType>>,
 ) -> Result<Option<Vec<(String, DType)>>, AllocError>
     requires { length names.items ≡ length dtypes.items }
-    ensures { IfOk result (λ fields. option_map (λ v. pairs_view v.items) fields ≡ known_fields (map string_bytes names.items) (map (option_map dtype_view) dtypes.items)) }
+    ensures { IfOk result (λ fields. option_map (λ v. pairs_view v.items) fields
+        ≡ known_fields (map string_bytes names.items) (map (option_map dtype_view) dtypes.items)) }
 {
     if !are_known(&dtypes) {
         return Ok(None);

@@ -32,7 +32,8 @@ fn read_texts(
     visits: &mut Visits,
 ) -> Result<Vec<String>, WalkError>
     requires { vector.now.elements ≡ Elements.Offsets }
-    ensures { Walks (λ texts. map string_bytes texts.items) result visits.new (within vector.now.levels visits.old (each_text vector.now.bytes vector.now.vector)) }
+    ensures { Walks (λ texts. map string_bytes texts.items) result visits.new
+        (within vector.now.levels visits.old (each_text vector.now.bytes vector.now.vector)) }
 {
     let mut texts = Vec::new(alloc);
     for at in 0..vector.len() {
@@ -66,7 +67,8 @@ fn read_elements(
     visits: &mut Visits,
 ) -> Result<Vec<Option<DType>>, WalkError>
     requires { vector.now.elements ≡ Elements.Offsets }
-    ensures { Walks (λ dtypes. map (option_map dtype_view) dtypes.items) result visits.new (within vector.now.levels visits.old (each_table vector.now.bytes (dtype_at vector.now.levels vector.now.bytes) vector.now.vector)) }
+    ensures { Walks (λ dtypes. map (option_map dtype_view) dtypes.items) result visits.new
+        (within vector.now.levels visits.old (each_table vector.now.bytes (dtype_at vector.now.levels vector.now.bytes) vector.now.vector)) }
 {
     let mut dtypes = Vec::new(alloc);
     for at in 0..vector.len() {
@@ -85,7 +87,8 @@ fn read_fields(
     table: &TableReader<'_>,
     visits: &mut Visits,
 ) -> Result<Vec<Option<DType>>, WalkError>
-    ensures { Walks (λ dtypes. map (option_map dtype_view) dtypes.items) result visits.new (within table.now.levels visits.old (fields_in (dtype_at table.now.levels table.now.bytes) table.now.bytes table.now.table)) }
+    ensures { Walks (λ dtypes. map (option_map dtype_view) dtypes.items) result visits.new
+        (within table.now.levels visits.old (fields_in (dtype_at table.now.levels table.now.bytes) table.now.bytes table.now.table)) }
 {
     match table.field_vector(4, Elements::Offsets, visits)? {
         Some(vector) => read_elements(alloc, &vector, visits),
@@ -101,7 +104,8 @@ fn read_in(
     table: &TableReader<'_>,
     visits: &mut Visits,
 ) -> Result<Option<DType>, WalkError>
-    ensures { Walks (option_map dtype_view) result visits.new (within table.now.levels visits.old (dtype_at (suc table.now.levels) table.now.bytes table.now.table)) }
+    ensures { Walks (option_map dtype_view) result visits.new
+        (within table.now.levels visits.old (dtype_at (suc table.now.levels) table.now.bytes table.now.table)) }
 {
     let kind = table.field_u8(0)?.unwrap_or(0);
     let nullable = table.field_u8(1)?.unwrap_or(0);

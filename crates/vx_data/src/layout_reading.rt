@@ -22,7 +22,8 @@ fn fit_all(
     rows: &[LayoutRow],
     dtypes: &[DType],
 ) -> Result<Option<Vec<Layout>>, AllocError>
-    ensures { IfOk result (λ layouts. option_map (λ v. v.items) layouts ≡ fit_rows kinds.now (rows_list (map row_view rows.now)) (Some (map dtype_view dtypes.now))) }
+    ensures { IfOk result (λ layouts. option_map (λ v. v.items) layouts
+        ≡ fit_rows kinds.now (rows_list (map row_view rows.now)) (Some (map dtype_view dtypes.now))) }
 {
     if rows.len() != dtypes.len() {
         return Ok(None);
@@ -46,7 +47,8 @@ fn fit_each(
     rows: &[LayoutRow],
     dtypes: Option<Vec<DType>>,
 ) -> Result<Option<Vec<Layout>>, AllocError>
-    ensures { IfOk result (λ layouts. option_map (λ v. v.items) layouts ≡ fit_rows kinds.now (rows_list (map row_view rows.now)) (option_map (λ v. map dtype_view v.items) dtypes)) }
+    ensures { IfOk result (λ layouts. option_map (λ v. v.items) layouts
+        ≡ fit_rows kinds.now (rows_list (map row_view rows.now)) (option_map (λ v. map dtype_view v.items) dtypes)) }
 {
     match dtypes {
         Some(dtypes) => fit_all(alloc, kinds, rows, &dtypes),

@@ -47,7 +47,8 @@ pub(crate) fn push_dtypes(
 
 /// The types of a struct's children.
 fn struct_dtypes(alloc: Global, dtype: &DType) -> Result<Option<Vec<DType>>, AllocError>
-    ensures { (count : ℕ) → IfOk result (λ dtypes. option_map (λ v. map dtype_view v.items) dtypes ≡ child_dtypes LayoutKind.Struct (dtype_view dtype.now) count) }
+    ensures { (count : ℕ) → IfOk result (λ dtypes. option_map (λ v. map dtype_view v.items) dtypes
+        ≡ child_dtypes LayoutKind.Struct (dtype_view dtype.now) count) }
 {
     match dtype {
         DType::Struct(fields, nullable) => {
@@ -118,8 +119,10 @@ pub(crate) fn shaped(
     segments: &Vec<SegmentId>,
     children: Option<Vec<Layout>>,
 ) -> Result<Option<Layout>, AllocError>
-    requires { (k : LayoutKind) (ts : List LayoutTree) → kind ≡ Some k → option_map (λ v. v.items) children ≡ Some ts → child_dtypes k (dtype_view dtype) (length ts) ≡ Some (map dtype_of ts) }
-    ensures { IfOk result (λ layout. layout ≡ shaped_by kind (dtype_view dtype) row_count (numbers_of segments.now.items) (option_map (λ v. v.items) children)) }
+    requires { (k : LayoutKind) (ts : List LayoutTree) → kind ≡ Some k → option_map (λ v. v.items) children ≡ Some ts →
+        child_dtypes k (dtype_view dtype) (length ts) ≡ Some (map dtype_of ts) }
+    ensures { IfOk result (λ layout. layout
+        ≡ shaped_by kind (dtype_view dtype) row_count (numbers_of segments.now.items) (option_map (λ v. v.items) children)) }
 {
     let Some(kind) = kind else {
         return Ok(None);

@@ -70,7 +70,8 @@ fn read_elements(
     visits: &mut Visits,
 ) -> Result<Vec<LayoutRow>, WalkError>
     requires { vector.now.elements ≡ Elements.Offsets }
-    ensures { Walks (λ rows. map row_view rows.items) result visits.new (within vector.now.levels visits.old (each_table vector.now.bytes (row_at specs vector.now.levels vector.now.bytes) vector.now.vector)) }
+    ensures { Walks (λ rows. map row_view rows.items) result visits.new
+        (within vector.now.levels visits.old (each_table vector.now.bytes (row_at specs vector.now.levels vector.now.bytes) vector.now.vector)) }
 {
     let mut rows = Vec::new(alloc);
     for at in 0..vector.len() {
@@ -90,7 +91,8 @@ fn read_children(
     table: &TableReader<'_>,
     visits: &mut Visits,
 ) -> Result<Vec<LayoutRow>, WalkError>
-    ensures { Walks (λ rows. map row_view rows.items) result visits.new (within table.now.levels visits.old (children_in (row_at specs table.now.levels table.now.bytes) table.now.bytes table.now.table)) }
+    ensures { Walks (λ rows. map row_view rows.items) result visits.new
+        (within table.now.levels visits.old (children_in (row_at specs table.now.levels table.now.bytes) table.now.bytes table.now.table)) }
 {
     match table.field_vector(3, Elements::Offsets, visits)? {
         Some(vector) => read_elements(alloc, specs, &vector, visits),

@@ -44,7 +44,7 @@ pub use read_back::written_dtype_is_read;
 pub use scalar::Scalar;
 pub use session::{ComponentKind, VortexSession};
 pub use sharing::may_be_shared;
-pub use stats_reading::read_stats;
+pub use stats_reading::{columns, read_stats};
 pub use stats_set::{Precision, Stat, StatsSet};
 pub use table_write_error::TableWriteError;
 

@@ -18,5 +18,12 @@ impl Model for StatsEntry {
 
     ghost Value = { Entry };
 
-    ghost view = { λ a. record { min = option_map (λ v. v.items) a.min; is_min_exact = a.is_min_exact; max = option_map (λ v. v.items) a.max; is_max_exact = a.is_max_exact; null_count = a.null_count; is_null_count_exact = a.is_null_count_exact } };
+    ghost view = { λ a. record {
+      min = option_map (λ v. v.items) a.min;
+      is_min_exact = a.is_min_exact;
+      max = option_map (λ v. v.items) a.max;
+      is_max_exact = a.is_max_exact;
+      null_count = a.null_count;
+      is_null_count_exact = a.is_null_count_exact;
+    } };
 }

@@ -68,7 +68,8 @@ fn read_elements(
     visits: &mut Visits,
 ) -> Result<Vec<StatsEntry>, WalkError>
     requires { vector.now.elements ≡ Elements.Offsets }
-    ensures { Walks (λ entries. entries.items) result visits.new (within vector.now.levels visits.old (each_table vector.now.bytes (entry_in vector.now.bytes) vector.now.vector)) }
+    ensures { Walks (λ entries. entries.items) result visits.new
+        (within vector.now.levels visits.old (each_table vector.now.bytes (entry_in vector.now.bytes) vector.now.vector)) }
 {
     let mut entries = Vec::new(alloc);
     for at in 0..vector.len() {
@@ -104,8 +105,8 @@ fn read_entries(alloc: Global, bytes: &[u8]) -> Result<Vec<StatsEntry>, WalkErro
     read_in(alloc, &table, &mut visits)
 }
 
-/// The types of the columns: the fields of a struct, and another type by itself.
-fn columns(alloc: Global, dtype: &DType) -> Result<Vec<DType>, AllocError>
+/// The types of the columns of a file of this type: the fields of a struct, and another type by itself.
+pub fn columns(alloc: Global, dtype: &DType) -> Result<Vec<DType>, AllocError>
     ensures { IfOk result (λ dtypes. map dtype_view dtypes.items ≡ columns_of (dtype_view dtype.now)) }
 {
     let mut dtypes = Vec::new(alloc);

@@ -86,7 +86,8 @@ abbrev pub IsRow : World → List Moment → Step → Reply → Type 0
 IsRow w past (Register segment) MissingSegment = length w.table ≤ segment
 IsRow w past (Register segment) (Registered number held) = (segment < length w.table) × (number ≡ made past) × (held ≡ covers w segment)
 IsRow w past (Poll n) NotLive = is_live past n ≡ false
-IsRow w past (Poll n) (Ready buffer) = (is_live past n ≡ true) × ((is_held past n || is_good (outcome_of past n)) ≡ true) × (option_map (slice_of w.file) (spec_of w past n) ≡ Some buffer)
+IsRow w past (Poll n) (Ready buffer) = (is_live past n ≡ true) × ((is_held past n || is_good (outcome_of past n)) ≡ true) ×
+    (option_map (slice_of w.file) (spec_of w past n) ≡ Some buffer)
 IsRow w past (Poll n) Pending = (is_live past n ≡ true) × (waits past n ≡ true)
 IsRow w past (Poll n) (Failed fault) = (is_live past n ≡ true) × (outcome_of past n ≡ Some (Bad fault))
 IsRow w past Drive (Driven spans) = Drives w past spans

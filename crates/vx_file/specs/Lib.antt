@@ -3,6 +3,7 @@ pub mod History
 pub mod Kept
 pub mod Logs
 pub mod Queue
+pub mod Ranges
 pub mod Serving
 pub mod Stands
 pub mod Tails

@@ -19,7 +19,13 @@ pub record Words : Type 0 where
   pub outcome : Option SpanOutcome
 
 abbrev pub words : World → List Moment → ℕ → Words
-words w past n = record { spec = spec_of w past n; is_live = is_live past n; is_held = is_held past n; is_polled = is_polled past n; outcome = outcome_of past n }
+words w past n = record {
+  spec = spec_of w past n;
+  is_live = is_live past n;
+  is_held = is_held past n;
+  is_polled = is_polled past n;
+  outcome = outcome_of past n;
+}
 
 -- a request of a segment stands so by these words
 abbrev pub MatchesState : World → Words → SegmentSpec → RequestState → Type 0

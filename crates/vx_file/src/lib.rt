@@ -3,6 +3,7 @@
 
 mod drive;
 mod memory;
+mod opening;
 mod queue;
 mod reading;
 mod reply;

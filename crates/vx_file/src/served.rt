@@ -5,7 +5,7 @@ use crate::Reply;
 use std::alloc::AllocError;
 use thiserror::Error;
 use vx_base::Sequence;
-use vx_footer::Footer;
+use vx_footer::{Footer, OpenError};
 use vx_sched::Fault;
 
 /// A footer, the ranges that opening asked, and one reply for each step of a script.
@@ -19,10 +19,10 @@ pub struct Served {
 /// Why a file was not served.
 #[derive(Clone, Copy, Debug, PartialEq, Eq, Error)]
 pub enum ServeError {
-    /// The file fails an opening check.
-    #[error("Refused")]
-    Refused,
-    /// The size or the opening range could not be read.
+    /// The file fails this opening check first. It is never want of memory.
+    #[error("{0}")]
+    Open(OpenError),
+    /// The size or an opening range could not be read.
     #[error("a read failed")]
     Fault(Fault),
     #[error("out of memory")]

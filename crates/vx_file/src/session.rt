@@ -121,7 +121,7 @@ impl Session {
         ensures { IfOk result (λ buffer. buffer ≡ cut_of self.now spec.now) }
     {
         // The size of the file fits a u64, and so do the sums below.
-        let size = self.size;
+        prove!(self.size <= u64::MAX);
         let from = (spec.offset - self.start) as usize;
         let buffer = self.tail.slice(alloc, from..from + spec.length as usize)?;
         Ok(buffer.aligned(spec.alignment))
@@ -146,7 +146,7 @@ impl Session {
         ensures err { OnErr result (self.new ≡ self.old) }
     {
         // The size of the file fits a u64, and so does the segment's end.
-        let size = self.size;
+        prove!(self.size <= u64::MAX);
         let number = self.requests.len() as u64;
         let held = self.start <= spec.offset;
         let end = spec.offset + u64::from(spec.length);

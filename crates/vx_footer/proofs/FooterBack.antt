@@ -18,9 +18,9 @@ use Rattle.vx_tables.specs.Counted.{Counted, vector_of, each_from, enter, allowe
 use Rattle.vx_tables.specs.Standing.{piece_at, Stands, ReadsBack, AreUtf8, IsTableAt}
 use Rattle.vx_tables.proofs.Places.{at_inside}
 use Rattle.vx_tables.proofs.ReadAll.{reads_back, root_read}
-use Rattle.vx_footer.specs.declared.table.FooterTable.{FooterTable}
-use Rattle.vx_footer.specs.declared.table.Locator.{Locator}
-use Rattle.vx_footer.specs.Tables.{spec_in, specs_of, specs_field, segments_field, first_segment, footer_in, footer_table}
+use Rattle.vx_footer.specs.FooterTable.{FooterTable}
+use Rattle.vx_footer.specs.declared.rows.Locator.{Locator}
+use Rattle.vx_footer.specs.Tables.{text_required, spec_in, specs_of, specs_in, segments_in, segment_structs, footer_in, footer_table}
 use Rattle.vx_footer.specs.Serialized.{id_pieces, flat_id, footer_pieces, ids_bytes}
 use Rattle.vx_tables.proofs.Walked.{Gets, then_gets, gets-pure, gets-present, gets-counted, gets-enter, gets-or_empty, gets-each, gets-allowed}
 
@@ -32,7 +32,7 @@ id_inside b t id h =
     omega (arith, inside, length-append (id ++ 0 ∷ []) [], length-append id (0 ∷ []))
 
 spec_gets : (b : List ℕ) (t : Table) (id : List ℕ) → Stands b t (id_pieces id) → is_utf8 id ≡ true → length b ≤ 65535 → Gets (spec_in b t) id 1024 0
-unfolding spec_in
+unfolding spec_in text_required
 spec_gets b t id h utf8 short =
     let reads = reads_back b t (id_pieces id) h in
     let cost : text_cost id ≤ 1024 = omega (arith, id_inside b t id h, short) in
@@ -57,8 +57,8 @@ specs_gets b v ids count each utf8 short =
     (gets-each read ids 0 1025 1 (λ j id got. subst (λ (i : ℕ). Gets (read i) id 1025 1) (sym (zero-add j)) (element_gets b v ids j id each got (utf8 j id got) short)))
 
 ids_gets : (b : List ℕ) (t : Table) (ps : List Piece) (k : ℕ) (ids : List (List ℕ)) → ReadsBack b t ps → piece_at k ps ≡ Some (tables k (map id_pieces ids)) → AreUtf8 ids → length b ≤ 65535
-    → Gets (specs_field b t k) ids (1 + length ids * 1025) 1
-unfolding specs_field
+    → Gets (specs_in b t k) ids (1 + length ids * 1025) 1
+unfolding specs_in
 ids_gets b t ps k ids reads found utf8 short =
     let v = reads.tables k (map id_pieces ids) found in
     let count : v.vector.count ≡ length ids = v.as_many ∙ length-map ids id_pieces in
@@ -70,27 +70,24 @@ ids_gets b t ps k ids reads found utf8 short =
 abbrev pub segment_row : SegmentSpec → Locator
 segment_row s = record { offset = s.offset; length = s.length; exponent = s.alignment; is_coded = false }
 
-abbrev found : ℕ → ℕ → ℕ → Option Locator
-found offset size exponent = Some (record { offset = offset; length = size; exponent = exponent; is_coded = false })
+abbrev found : ℕ → ℕ → ℕ → List Locator
+found offset size exponent = record { offset = offset; length = size; exponent = exponent; is_coded = false } ∷ []
 
-one_segment : (s : SegmentSpec) → s.offset < 2 ^ 64 → s.length < 2 ^ 32 → first_segment (flat_map segment (s ∷ [])) ≡ Some (segment_row s)
+one_segment : (s : SegmentSpec) → s.offset < 2 ^ 64 → s.length < 2 ^ 32 → segment_structs 1 (flat_map segment (s ∷ [])) ≡ segment_row s ∷ []
 unfolding segment
 one_segment s offset size =
     let offset_is : from_le_bytes w64 (to_le_bytes w64 s.offset) ≡ s.offset = from_le_bytes-to_le_bytes_8 s.offset offset in
     let size_is : from_le_bytes w32 (to_le_bytes w32 s.length) ≡ s.length = from_le_bytes-to_le_bytes_4 s.length size in
     ap (λ n. found n (from_le_bytes w32 (to_le_bytes w32 s.length)) s.alignment) offset_is ∙ ap (λ n. found s.offset n s.alignment) size_is
 
+abbrev row_of : List (List ℕ) → List Locator → FooterTable
+row_of ids segments = record { arrays = ids; layouts = flat_id ∷ []; segments = segments }
+
 abbrev pub footer_row : List (List ℕ) → SegmentSpec → FooterTable
-footer_row ids s = record { arrays = ids; layouts = flat_id ∷ []; segments = 1; segment = Some (segment_row s) }
+footer_row ids s = row_of ids (segment_row s ∷ [])
 
-abbrev row_of : List (List ℕ) → ℕ → Option Locator → FooterTable
-row_of ids count s = record { arrays = ids; layouts = flat_id ∷ []; segments = count; segment = s }
-
-row_same : (ids : List (List ℕ)) (count : ℕ) (first : Option Locator) (s : SegmentSpec) → count ≡ 1 → first ≡ Some (segment_row s) → row_of ids count first ≡ footer_row ids s
-row_same ids count first s one same = ap (λ n. row_of ids n first) one ∙ ap (row_of ids 1) same
-
-segments_gets : (b : List ℕ) (t : Table) (v : Vector) → vector_field b t 2 Segments ≡ Some (Some v) → Gets (segments_field b t) v 1 1
-unfolding segments_field
+segments_gets : (b : List ℕ) (t : Table) (v : Vector) → vector_field b t 2 Segments ≡ Some (Some v) → Gets (segments_in b t) v 1 1
+unfolding segments_in
 segments_gets b t v found =
     let vector : Gets (vector_of b t 2 Segments) (Some v) 1 1 = gets-counted _ (vector_field b t 2 Segments) (Some v) 1 1 found (omega arith) in
     then_gets _ _ (Some v) v 1 vector (gets-present v 0 1) (omega arith)
@@ -107,12 +104,13 @@ footer_gets : (b : List ℕ) (t : Table) (ids : List (List ℕ)) (s : SegmentSpe
 unfolding footer_in
 footer_gets b t ids s offset size utf8 short reads =
     let arrays = ids_gets b t (footer_pieces ids (s ∷ [])) 0 ids reads refl utf8 short in
-    let layouts : Gets (specs_field b t 1) (flat_id ∷ []) 1026 1 = ids_gets b t (footer_pieces ids (s ∷ [])) 1 (flat_id ∷ []) reads refl flat_is_utf8 short in
+    let layouts : Gets (specs_in b t 1) (flat_id ∷ []) 1026 1 = ids_gets b t (footer_pieces ids (s ∷ [])) 1 (flat_id ∷ []) reads refl flat_is_utf8 short in
     let v = reads.segments 2 (s ∷ []) refl in
     let segments = segments_gets b t v.vector v.found in
-    let first : first_segment (element_bytes b v.vector Segments) ≡ Some (segment_row s) = ap first_segment v.bytes ∙ one_segment s offset size in
-    let row = row_of ids v.vector.count (first_segment (element_bytes b v.vector Segments)) in
-    let same : row ≡ footer_row ids s = row_same ids v.vector.count _ s v.as_many first in
+    let read_segments = segment_structs v.vector.count (element_bytes b v.vector Segments) in
+    let first : read_segments ≡ segment_row s ∷ [] = ap (λ n. segment_structs n (element_bytes b v.vector Segments)) v.as_many ∙ ap (segment_structs 1) v.bytes ∙ one_segment s offset size in
+    let row = row_of ids read_segments in
+    let same : row ≡ footer_row ids s = ap (row_of ids) first in
     let read : Gets (footer_in b t) row (1028 + length ids * 1025) 1 =
     then_gets _ _ ids row (1028 + length ids * 1025) arrays (
     then_gets _ _ (flat_id ∷ []) row 1027 layouts (

@@ -1,5 +1,10 @@
-pub mod Seen
+pub mod Lists
+pub mod Specs
 pub mod TablesBack
 pub mod FooterBack
 pub mod TailBack
 pub mod WrittenRead
+pub mod Sets
+pub mod Written
+pub mod Vectors
+pub mod Seen

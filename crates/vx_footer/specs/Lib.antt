@@ -1,4 +1,10 @@
+pub mod DtypeCode
+pub mod FileStats
+pub mod FooterTable
 pub mod Tables
+pub mod Footers
 pub mod Opening
+pub mod Deserializing
+pub mod Steps
 pub mod Serialized
 pub mod Writable

@@ -1,25 +1,36 @@
--- What a file is: the opening checks in order, each a named condition on the whole file, and the footer
--- where all of them hold. The first check that fails names the refusal.
-use Rattle.std.specs.Prelude.{ℕ, ◌≡◌, ◌≤◌, ◌+◌, ◌-◌, Bool, ◌&&◌, ◌||◌, true, not, ◌==◌, nat_le, min, if◌then◌else◌, List, [], ◌∷◌, length, take, drop, codes, Option, Some, None, is_none, slice_get, Result, Ok, Err}
+-- What a file is: the opening checks in order, each a named condition on the whole file and the supplied dtype, and
+-- the footer where all of them hold. The first check that fails names the refusal.
+use Rattle.std.specs.Prelude.{◌≡◌, ℕ, ◌≤◌, ◌+◌, ◌-◌, ◌%◌, ◌^◌, Bool, true, ◌&&◌, ◌||◌, not, ◌==◌, nat_le, min, if◌then◌else◌, List, [], ◌∷◌, ◌++◌, length, take, drop, codes, Option, Some, None, is_some, Result, Ok, Err}
 use Rattle.std.specs.Int.{w16, from_le_bytes}
+use Rattle.std.specs.List.{list_all, list_any}
+use Rattle.std.specs.Option.{option_map}
 use Rattle.std.specs.Str.{bytes_eq}
 use Rattle.vx_base.specs.Buffer.{bytes_at}
 use Rattle.vx_base.specs.Checks.{◌>>=◌, ◌unless◌, ◌lacking◌}
 use Rattle.vx_base.specs.declared.segment.SegmentSpec.{SegmentSpec}
 use Rattle.vx_tables.specs.Counted.{allowed}
-use Rattle.vx_footer.specs.Tables.{postscript_table, dtype_table, layout_table, footer_table}
+use Rattle.vx_data.specs.declared.data_error.DataError.{DataError}
+use Rattle.vx_data.specs.declared.data_error.DataError.TheVariants as table
+use Rattle.vx_data.specs.Dtype.{Dtype}
+use Rattle.vx_data.specs.DtypeTable.{dtype_checks}
+use Rattle.vx_data.specs.LayoutTable.{layout_checks}
+use Rattle.vx_data.specs.StatsTable.{columns_of, stats_checks}
 use Rattle.vx_footer.specs.declared.error.OpenError.{OpenError}
-use Rattle.vx_footer.specs.declared.error.OpenError.TheVariants.{TooSmall, BadMagic, BadVersion, PostscriptTooLong, BadTable, Unsupported, BadAlignment, MissingDType, OutOfBounds, UnknownEncoding, PastEnd, OutOfMemory}
+use Rattle.vx_footer.specs.declared.error.OpenError.TheVariants.{TooSmall, BadMagic, BadVersion, PostscriptTooLong, BadTable, Unsupported, TooManyMetadata, EmptyKey, LongKey, DuplicateKey, BadAlignment, MissingDType, OutOfBounds, StatsCount, PastEnd, UnknownEncoding, Unordered, OutOfMemory}
+use Rattle.vx_footer.specs.declared.error.Which.{Which}
 use Rattle.vx_footer.specs.declared.error.Which.TheVariants as which
-use Rattle.vx_footer.specs.declared.footer.Footer.{Footer}
-use Rattle.vx_footer.specs.declared.ptype.PType.{PType}
-use Rattle.vx_footer.specs.declared.ptype.PType.TheVariants.{U8, U16, U32, U64, I8, I16, I32, I64}
-use Rattle.vx_footer.specs.declared.table.Locator.{Locator}
-use Rattle.vx_footer.specs.declared.table.PostscriptTable.{PostscriptTable}
-use Rattle.vx_footer.specs.declared.table.Tables.{Tables}
-use Rattle.vx_footer.specs.declared.table.DTypeTable.{DTypeTable}
-use Rattle.vx_footer.specs.declared.table.LayoutTable.{LayoutTable}
-use Rattle.vx_footer.specs.declared.table.FooterTable.{FooterTable}
+use Rattle.vx_footer.specs.declared.version.FileVersion.{FileVersion}
+use Rattle.vx_footer.specs.declared.version.FileVersion.TheVariants.{V1, V2}
+use Rattle.vx_footer.specs.declared.postscript.PostscriptSegment.{PostscriptSegment}
+use Rattle.vx_footer.specs.declared.postscript.PostscriptMetadata.{PostscriptMetadata}
+use Rattle.vx_footer.specs.declared.postscript.Postscript.{Postscript}
+use Rattle.vx_footer.specs.declared.rows.Locator.{Locator}
+use Rattle.vx_footer.specs.declared.rows.MetadataRow.{MetadataRow}
+use Rattle.vx_footer.specs.declared.rows.PostscriptRow.{PostscriptRow}
+use Rattle.vx_footer.specs.FooterTable.{FooterTable}
+use Rattle.vx_footer.specs.Tables.{postscript_table, footer_table}
+use Rattle.vx_footer.specs.FileStats.{FileStats}
+use Rattle.vx_footer.specs.Footers.{FooterContent, segment_table}
 
 -- ---- the end marker: a version, the postscript's length, and the magic
 
@@ -27,8 +38,11 @@ use Rattle.vx_footer.specs.declared.table.FooterTable.{FooterTable}
 abbrev pub marker_of : List ℕ → List ℕ
 marker_of file = drop (length file - 8) file
 
-abbrev pub version_of : List ℕ → ℕ
-version_of file = from_le_bytes w16 (take 2 (marker_of file))
+abbrev pub version_number : List ℕ → ℕ
+version_number file = from_le_bytes w16 (take 2 (marker_of file))
+
+abbrev pub version_of : ℕ → Option FileVersion
+version_of n = if n == 1 then Some V1 else if n == 2 then Some V2 else None
 
 abbrev pub postscript_length : List ℕ → ℕ
 postscript_length file = from_le_bytes w16 (take 2 (drop 2 (marker_of file)))
@@ -40,15 +54,21 @@ ends_with_magic file = bytes_eq (drop 4 (marker_of file)) (codes "VTXF")
 abbrev pub postscript_bytes : List ℕ → List ℕ
 postscript_bytes file = bytes_at file (length file - 8 - postscript_length file) (postscript_length file)
 
--- the checks on the end marker, which give the postscript's bytes
-unfoldable pub end_checks : List ℕ → Result (List ℕ) OpenError
-end_checks file = do
+-- the checks on the end marker, which give the version
+unfoldable pub marker_checks : List ℕ → Result FileVersion OpenError
+marker_checks file = do
   _ ← TooSmall unless nat_le 8 (length file)
   _ ← BadMagic unless ends_with_magic file
-  _ ← BadVersion unless version_of file == 1
+  version ← BadVersion lacking version_of (version_number file)
   _ ← PostscriptTooLong unless nat_le (postscript_length file) 65527
+  Ok version
+
+-- the checks on the end marker and the postscript's place, which give the version and the postscript's bytes
+unfoldable pub end_checks : List ℕ → Result (FileVersion × List ℕ) OpenError
+end_checks file = do
+  version ← marker_checks file
   _ ← TooSmall unless nat_le (postscript_length file + 8) (length file)
-  Ok (postscript_bytes file)
+  Ok (version, postscript_bytes file)
 
 -- ---- the postscript
 
@@ -60,153 +80,192 @@ passes test (Some x) = test x
 abbrev pub is_plain : Locator → Bool
 is_plain l = not l.is_coded
 
-abbrev pub is_aligned : Locator → Bool
-is_aligned l = nat_le l.exponent 16
+-- no segment names compression or encryption
+abbrev pub all_plain : PostscriptRow → Bool
+all_plain p = passes is_plain p.dtype && is_plain p.layout && passes is_plain p.statistics && is_plain p.footer && list_all (λ e. is_plain e.segment) p.metadata
 
--- no locator names compression or encryption
-abbrev pub all_plain : PostscriptTable → Bool
-all_plain p = passes is_plain p.dtype && is_plain p.layout && passes is_plain p.statistics && is_plain p.footer
+-- how many metadata entries a file may have, and how long their keys may be
+abbrev pub most_entries : FileVersion → ℕ
+most_entries V1 = 16
+most_entries V2 = 64
 
--- each exponent is at most 16
-abbrev pub all_aligned : PostscriptTable → Bool
-all_aligned p = passes is_aligned p.dtype && is_aligned p.layout && passes is_aligned p.statistics && is_aligned p.footer
+abbrev pub longest_key : FileVersion → ℕ
+longest_key V1 = 64
+longest_key V2 = 256
 
--- statistics and metadata are not read yet
-abbrev pub is_bare : PostscriptTable → Bool
-is_bare p = is_none p.statistics && (p.metadata == 0)
+-- a segment whose exponent is at most 16
+abbrev pub aligned : Locator → Option PostscriptSegment
+aligned l = if nat_le l.exponent 16 then Some (record { offset = l.offset; length = l.length; alignment = l.exponent }) else None
 
--- the checks on the postscript, which give the places of the tables
-unfoldable pub postscript_checks : List ℕ → Result Tables OpenError
-postscript_checks bytes = do
+abbrev pub aligned_if_any : Option Locator → Option (Option PostscriptSegment)
+aligned_if_any None = Some None
+aligned_if_any (Some l) = option_map (λ s. Some s) (aligned l)
+
+abbrev pub has_key : List PostscriptMetadata → List ℕ → Bool
+has_key entries key = list_any (λ m. bytes_eq m.key key) entries
+
+-- the checks on a metadata entry behind others
+unfoldable pub entry_checks : FileVersion → List PostscriptMetadata → MetadataRow → Result PostscriptMetadata OpenError
+entry_checks version earlier e = do
+  segment ← BadAlignment lacking aligned e.segment
+  _ ← EmptyKey unless not (length e.key == 0)
+  _ ← LongKey unless nat_le (length e.key) (longest_key version)
+  _ ← DuplicateKey unless not (has_key earlier e.key)
+  Ok (record { key = e.key; segment = segment })
+
+-- the entries that were checked, and those that come behind them, in order
+unfoldable pub entries_checks : FileVersion → List PostscriptMetadata → List MetadataRow → Result (List PostscriptMetadata) OpenError
+entries_checks version earlier [] = Ok earlier
+entries_checks version earlier (e ∷ es) = entry_checks version earlier e >>= λ m. entries_checks version (earlier ++ m ∷ []) es
+
+-- the checks on the alignments of the tables
+unfoldable pub places_checks : Option Locator → Locator → Option Locator → Locator → List PostscriptMetadata → Result Postscript OpenError
+places_checks dtype layout statistics footer metadata = do
+  d ← BadAlignment lacking aligned_if_any dtype
+  l ← BadAlignment lacking aligned layout
+  s ← BadAlignment lacking aligned_if_any statistics
+  f ← BadAlignment lacking aligned footer
+  Ok (record { dtype = d; layout = l; statistics = s; footer = f; metadata = metadata })
+
+-- the checks on the postscript
+unfoldable pub postscript_checks : FileVersion → List ℕ → Result Postscript OpenError
+postscript_checks version bytes = do
   p ← BadTable which.Postscript lacking allowed (postscript_table bytes)
   _ ← Unsupported unless all_plain p
-  _ ← Unsupported unless is_bare p
-  _ ← BadAlignment unless all_aligned p
-  dtype ← MissingDType lacking p.dtype
-  Ok (record { dtype = dtype; layout = p.layout; footer = p.footer })
+  _ ← TooManyMetadata unless nat_le (length p.metadata) (most_entries version)
+  metadata ← entries_checks version [] p.metadata
+  places_checks p.dtype p.layout p.statistics p.footer metadata
 
--- the least offset of a table that is needed
-abbrev pub least_offset : Tables → ℕ
-least_offset t = min t.dtype.offset (min t.layout.offset t.footer.offset)
+-- ---- the tail: the end marker and the postscript, and that a dtype is supplied or named
+
+unfoldable pub tail_checks : Option Dtype → List ℕ → Result (FileVersion × Postscript) OpenError
+tail_checks dtype file = do
+  end ← end_checks file
+  p ← postscript_checks end.0 end.1
+  _ ← MissingDType unless (is_some dtype || is_some p.dtype)
+  Ok (end.0, p)
+
+-- ---- the tables that are needed: the dtype where none is supplied, the statistics where they are named, the
+-- layout and the footer
+
+abbrev pub needed_dtype : Option Dtype → Option PostscriptSegment → Option PostscriptSegment
+needed_dtype None place = place
+needed_dtype (Some d) place = None
+
+-- the lesser of an offset and that of a table, where there is one
+abbrev pub lesser : Option PostscriptSegment → ℕ → ℕ
+lesser None offset = offset
+lesser (Some s) offset = min s.offset offset
+
+abbrev pub least_offset : Option Dtype → Postscript → ℕ
+least_offset dtype p = lesser (needed_dtype dtype p.dtype) (lesser p.statistics (min p.layout.offset p.footer.offset))
 
 -- ---- the tables
 
 -- the bytes of a table that lies in the file
-abbrev pub table_bytes : List ℕ → Locator → Option (List ℕ)
-table_bytes file l = if nat_le (l.offset + l.length) (length file) then Some (bytes_at file l.offset l.length) else None
+abbrev pub table_bytes : List ℕ → PostscriptSegment → Option (List ℕ)
+table_bytes file s = if nat_le (s.offset + s.length) (length file) then Some (bytes_at file s.offset s.length) else None
 
-abbrev pub ptype_of_number : ℕ → Option PType
-ptype_of_number n =
-    if n == 0 then Some U8 else if n == 1 then Some U16 else if n == 2 then Some U32 else if n == 3 then Some U64
-    else if n == 4 then Some I8 else if n == 5 then Some I16 else if n == 6 then Some I32 else if n == 7 then Some I64 else None
+-- which refusal of a file the refusal of a table is
+abbrev pub refusal_of : Which → DataError → OpenError
+refusal_of which table.BadTable = BadTable which
+refusal_of which table.Unsupported = Unsupported
+refusal_of which table.UnknownEncoding = UnknownEncoding
+refusal_of which table.StatsCount = StatsCount
+refusal_of which table.OutOfMemory = OutOfMemory
 
--- an integer that is not nullable
-abbrev pub ptype_of : DTypeTable → Option PType
-ptype_of d = if (d.kind == 2) && (d.nullable == 0) && not d.is_nested then ptype_of_number d.ptype else None
+abbrev pub of_table : {A : Type 0} → Which → Result A DataError → Result A OpenError
+of_table which (Ok x) = Ok x
+of_table which (Err e) = Err (refusal_of which e)
 
-abbrev pub is_flat : List ℕ → Bool
-is_flat id = bytes_eq id (codes "vortex.flat")
+-- the dtype of the rows: the supplied one, or that of the table that is named
+abbrev pub dtype_found : (PostscriptSegment → Option (List ℕ)) → Option Dtype → Option PostscriptSegment → Result Dtype OpenError
+dtype_found piece (Some d) place = Ok d
+dtype_found piece None None = Err MissingDType
+dtype_found piece None (Some s) = OutOfBounds lacking piece s >>= λ bytes. of_table which.DType (dtype_checks bytes)
 
--- the layout ids that are known
-abbrev pub is_known : List ℕ → Bool
-is_known id = is_flat id || bytes_eq id (codes "vortex.chunked") || bytes_eq id (codes "vortex.struct")
+-- the statistics of a table: one set for each field of a struct, or one
+abbrev pub statistics_in : Dtype → List ℕ → Result FileStats OpenError
+statistics_in d bytes = of_table which.Statistics (stats_checks d bytes) >>= λ sets. Ok (record { sets = sets; dtypes = columns_of d })
 
--- a flat layout has no children and one segment
-abbrev pub is_leaf : LayoutTable → Bool
-is_leaf l = (l.children == 0) && (l.segments == 1)
+-- the statistics, where they are named
+abbrev pub statistics_found : (PostscriptSegment → Option (List ℕ)) → Dtype → Option PostscriptSegment → Result (Option FileStats) OpenError
+statistics_found piece d None = Ok None
+statistics_found piece d (Some s) = OutOfBounds lacking piece s >>= λ bytes. statistics_in d bytes >>= λ stats. Ok (Some stats)
 
--- at most 16 ids of each kind, and one segment
-abbrev pub is_small : FooterTable → Bool
-is_small f = nat_le (length f.arrays) 16 && nat_le (length f.layouts) 16 && (f.segments == 1)
+-- the offset of a metadata segment is a multiple of its alignment
+abbrev pub is_placed : PostscriptMetadata → Bool
+is_placed m = m.segment.offset % 2 ^ m.segment.alignment == 0
 
--- the layout of a footer: the checks on the layout table
-unfoldable pub layout_checks : FooterTable → List ℕ → Result LayoutTable OpenError
-layout_checks f bytes = do
-  l ← BadTable which.Layout lacking allowed (layout_table bytes)
-  id ← BadTable which.Layout lacking slice_get f.layouts l.encoding
-  _ ← UnknownEncoding unless is_known id
-  _ ← Unsupported unless is_flat id
-  _ ← BadTable which.Layout unless is_leaf l
-  Ok l
+abbrev pub aligned_spec : Locator → Option SegmentSpec
+aligned_spec l = if nat_le l.exponent 16 then Some (record { offset = l.offset; length = l.length; alignment = l.exponent }) else None
 
--- the checks on the data segment: its alignment, and that it ends within a file of this size
-unfoldable pub segment_checks : Locator → ℕ → Result SegmentSpec OpenError
-segment_checks s size = do
-  _ ← BadAlignment unless is_aligned s
-  _ ← PastEnd unless nat_le (s.offset + s.length) size
-  Ok (record { offset = s.offset; length = s.length; alignment = s.exponent })
+-- a segment before others, where all are there
+abbrev pub spec_before : Option SegmentSpec → Option (List SegmentSpec) → Option (List SegmentSpec)
+spec_before None ss = None
+spec_before (Some s) None = None
+spec_before (Some s) (Some ss) = Some (s ∷ ss)
 
--- the checks on the dtype table
-unfoldable pub dtype_checks : List ℕ → Result PType OpenError
-dtype_checks bytes = do
-  d ← BadTable which.DType lacking allowed (dtype_table bytes)
-  Unsupported lacking ptype_of d
+abbrev pub aligned_specs : List Locator → Option (List SegmentSpec)
+aligned_specs [] = Some []
+aligned_specs (l ∷ ls) = spec_before (aligned_spec l) (aligned_specs ls)
 
--- the checks on the layout and the segment that a footer's table names, of a file of this size
-unfoldable pub layout_and_segment : FooterTable → ℕ → List ℕ → Result (LayoutTable × SegmentSpec) OpenError
-layout_and_segment f size layout_bytes = do
-  s ← Unsupported lacking f.segment
-  _ ← Unsupported unless is_plain s
-  l ← layout_checks f layout_bytes
-  _ ← Unsupported unless is_small f
-  segment ← segment_checks s size
-  Ok (l, segment)
+-- no offset is below the one before it
+abbrev pub rise_from : ℕ → List SegmentSpec → Bool
+rise_from least [] = true
+rise_from least (s ∷ ss) = nat_le least s.offset && rise_from s.offset ss
 
--- the checks on the footer's table and the layout's, of a file of this size
-unfoldable pub footer_checks : PType → ℕ → List ℕ → List ℕ → Result Footer OpenError
-footer_checks ptype size footer_bytes layout_bytes = do
+abbrev pub are_ordered : List SegmentSpec → Bool
+are_ordered ss = rise_from 0 ss
+
+-- the checks on the data segments: their alignments, then their order
+unfoldable pub segments_checks : List Locator → Result (List SegmentSpec) OpenError
+segments_checks ls = do
+  segments ← BadAlignment lacking aligned_specs ls
+  _ ← Unordered unless are_ordered segments
+  Ok segments
+
+-- the checks on the footer's table and the layout's
+unfoldable pub content_checks : FileVersion → Dtype → Option FileStats → List PostscriptMetadata → List ℕ → List ℕ → Result FooterContent OpenError
+content_checks version d statistics metadata footer_bytes layout_bytes = do
   f ← BadTable which.Footer lacking allowed (footer_table footer_bytes)
-  parts ← layout_and_segment f size layout_bytes
-  Ok (record { row_count = parts.0.row_count; ptype = ptype; segment = record { 0 = parts.0.segment }; segments = parts.1 ∷ []; array_ids = f.arrays })
+  _ ← Unsupported unless list_all is_plain f.segments
+  layout ← of_table which.Layout (layout_checks f.layouts d layout_bytes)
+  segments ← segments_checks f.segments
+  Ok (record { version = version; layout = layout; segments = segments; statistics = statistics; metadata = metadata; array_ids = f.arrays })
 
--- the checks on the tables, which are got by `piece`, of a file of this size
-unfoldable pub table_checks : (Locator → Option (List ℕ)) → ℕ → Tables → Result Footer OpenError
-table_checks piece size t = do
-  dtype_bytes ← OutOfBounds lacking piece t.dtype
-  ptype ← dtype_checks dtype_bytes
-  footer_bytes ← OutOfBounds lacking piece t.footer
-  layout_bytes ← OutOfBounds lacking piece t.layout
-  footer_checks ptype size footer_bytes layout_bytes
-
--- a segment ends within a file of this size
-abbrev pub EndsWithin : ℕ → SegmentSpec → Type 0
-EndsWithin size s = s.offset + s.length ≤ size
+-- the checks on the tables, which are got by `piece`
+unfoldable pub table_checks : (PostscriptSegment → Option (List ℕ)) → Option Dtype → FileVersion → Postscript → Result FooterContent OpenError
+table_checks piece dtype version p = do
+  d ← dtype_found piece dtype p.dtype
+  statistics ← statistics_found piece d p.statistics
+  _ ← BadAlignment unless list_all is_placed p.metadata
+  footer_bytes ← OutOfBounds lacking piece p.footer
+  layout_bytes ← OutOfBounds lacking piece p.layout
+  content_checks version d statistics p.metadata footer_bytes layout_bytes
 
 -- ---- the file
 
--- the bytes that the first read asks for at least
-abbrev pub least_read : ℕ
-least_read = 65535
+-- a segment ends within a file of this size
+abbrev pub ends_within : ℕ → SegmentSpec → Bool
+ends_within size s = nat_le (s.offset + s.length) size
 
--- where the first read begins
-abbrev pub tail_start : ℕ → ℕ
-tail_start size = size - least_read
+abbrev pub EndsWithin : ℕ → SegmentSpec → Type 0
+EndsWithin size s = s.offset + s.length ≤ size
 
--- the opening of a file of this size, of whose bytes the last ones are these, from a start on
-unfoldable pub opening_checks : List ℕ → ℕ → ℕ → (Locator → Option (List ℕ)) → Result Footer OpenError
-opening_checks last start size piece = do
-  postscript ← end_checks last
-  t ← postscript_checks postscript
-  _ ← Unsupported unless nat_le start (least_offset t)
-  table_checks piece size t
+-- each segment ends within a file of this size
+abbrev pub extent_check : ℕ → FooterContent → Result FooterContent OpenError
+extent_check size f = PastEnd unless list_all (ends_within size) (segment_table f) >>= λ _. Ok f
+
+-- the footer that the tables of a file give, before its extent is looked at
+unfoldable pub footer_of : List ℕ → Option Dtype → Result FooterContent OpenError
+footer_of file dtype = do
+  tail ← tail_checks dtype file
+  table_checks (table_bytes file) dtype tail.0 tail.1
 
 -- the footer of a file, or the refusal of the first check that fails
-unfoldable pub vx_grammar : List ℕ → Result Footer OpenError
-vx_grammar file = opening_checks file (tail_start (length file)) (length file) (table_bytes file)
-
--- ---- the same of the part that was read
-
--- the bytes of a table in the part of a file that begins at a start
-abbrev pub seen_bytes : ℕ → List ℕ → Locator → Option (List ℕ)
-seen_bytes start tail l = if nat_le start l.offset && nat_le (l.offset + l.length) (start + length tail) then Some (bytes_at tail (l.offset - start) l.length) else None
-
-unfoldable pub seen_checks : ℕ → List ℕ → Result Footer OpenError
-seen_checks start tail = opening_checks tail start (start + length tail) (seen_bytes start tail)
-
--- the tail of a file that the first read asks for
-pub record IsTail (file : List ℕ) (start : ℕ) (tail : List ℕ) : Type 0 where
-  pub begins : start ≡ tail_start (length file)
-  pub bytes : tail ≡ drop start file
+unfoldable pub vx_grammar : List ℕ → Option Dtype → Result FooterContent OpenError
+vx_grammar file dtype = footer_of file dtype >>= extent_check (length file)
 
 -- ---- what a function answers
 

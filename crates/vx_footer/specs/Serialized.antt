@@ -1,40 +1,39 @@
--- What is written of a footer: its tables, the postscript that says where they lie, and the end marker.
-use Rattle.std.specs.Prelude.{ℕ, ◌≡◌, ◌+◌, ◌^◌, false, nat_lt, if◌then◌else◌, List, [], ◌∷◌, ◌++◌, length, map, codes, Result, Ok, Err}
+-- What is written of a footer: its tables, the postscript that says where they lie, and the end marker. So far this is
+-- said of footers of the first version whose layout is one flat layout, without statistics and metadata.
+use Rattle.std.specs.Prelude.{ℕ, ◌≡◌, ◌+◌, ◌^◌, nat_lt, if◌then◌else◌, List, [], ◌∷◌, ◌++◌, length, map, codes, None, Result, Ok, Err}
 use Rattle.std.specs.Int.{w8, w16, w32, w64, to_le_bytes}
 use Rattle.std.specs.List.{flat_map}
 use Rattle.vx_base.specs.declared.segment.SegmentSpec.{SegmentSpec}
 use Rattle.vx_base.specs.Buffer.{Buffer}
 use Rattle.vx_base.specs.Checks.{◌>>=◌}
-use Rattle.vx_tables.specs.Block.{Piece, number, numbers, text, table, tables, segments, root_bytes}
+use Rattle.vx_tables.specs.Block.{Piece, number, text, table, tables, segments, root_bytes}
 use Rattle.vx_tables.specs.declared.table_error.TableError.{TableError}
 use Rattle.vx_tables.specs.declared.table_error.TableError.TheVariants as refused
-use Rattle.vx_footer.specs.declared.footer.Footer.{Footer}
-use Rattle.vx_footer.specs.declared.ptype.PType.{PType}
-use Rattle.vx_footer.specs.declared.ptype.PType.TheVariants.{U8, U16, U32, U64, I8, I16, I32, I64}
+use Rattle.vx_data.specs.declared.layout_kind.LayoutKind.TheVariants.{Flat}
+use Rattle.vx_data.specs.declared.table_write_error.TableWriteError.{TableWriteError}
+use Rattle.vx_data.specs.declared.table_write_error.TableWriteError.TheVariants as unwritten
+use Rattle.vx_data.specs.Dtype.{Dtype}
+use Rattle.vx_data.specs.DtypeWritten.{pieces_of, dtype_written}
+use Rattle.vx_data.specs.Layout.{node, no_layouts, dtype_of}
+use Rattle.vx_data.specs.LayoutWritten.{tree_pieces, layout_written}
 use Rattle.vx_footer.specs.declared.serialize_error.SerializeError.{SerializeError}
-use Rattle.vx_footer.specs.declared.serialize_error.SerializeError.TheVariants.{SegmentTooLong, OffsetOverflow, OutOfMemory}
-use Rattle.vx_footer.specs.declared.table.Locator.{Locator}
-use Rattle.vx_footer.specs.declared.table.Tables.{Tables}
+use Rattle.vx_footer.specs.declared.serialize_error.SerializeError.TheVariants.{TooDeep, TooManyTables, SegmentTooLong, OffsetOverflow, OutOfMemory}
+use Rattle.vx_footer.specs.declared.version.FileVersion.TheVariants.{V1}
+use Rattle.vx_footer.specs.declared.postscript.PostscriptSegment.{PostscriptSegment}
+use Rattle.vx_footer.specs.declared.serializing.Places.{Places}
+use Rattle.vx_footer.specs.Footers.{FooterContent}
+
+-- a footer of the first version with one flat layout, without statistics and metadata
+pub record IsFlat (f : FooterContent) : Type 0 where
+  pub rows_dtype : Dtype
+  pub rows : ℕ
+  pub segment : ℕ
+  pub layout : f.layout ≡ node Flat rows_dtype rows (segment ∷ []) no_layouts
+  pub version : f.version ≡ V1
+  pub statistics : f.statistics ≡ None
+  pub metadata : f.metadata ≡ []
 
 -- ---- the pieces of each table, in order of slot
-
-abbrev pub ptype_number : PType → ℕ
-ptype_number U8 = 0
-ptype_number U16 = 1
-ptype_number U32 = 2
-ptype_number U64 = 3
-ptype_number I8 = 4
-ptype_number I16 = 5
-ptype_number I32 = 6
-ptype_number I64 = 7
-
--- an integer that is not nullable
-abbrev pub dtype_pieces : PType → List Piece
-dtype_pieces ptype = number w8 0 2 ∷ number w8 1 0 ∷ number w8 2 (ptype_number ptype) ∷ []
-
--- the first of the layout specs, the rows, and one segment
-abbrev pub layout_pieces : ℕ → ℕ → List Piece
-layout_pieces rows segment = number w16 0 0 ∷ number w64 1 rows ∷ numbers 4 (segment ∷ []) ∷ []
 
 abbrev pub id_pieces : List ℕ → List Piece
 id_pieces id = text 0 id ∷ []
@@ -46,43 +45,37 @@ flat_id = codes "vortex.flat"
 abbrev pub footer_pieces : List (List ℕ) → List SegmentSpec → List Piece
 footer_pieces ids specs = tables 0 (map id_pieces ids) ∷ tables 1 (id_pieces flat_id ∷ []) ∷ segments 2 specs ∷ []
 
-abbrev pub locator_pieces : Locator → List Piece
-locator_pieces l = number w64 0 l.offset ∷ number w32 1 l.length ∷ number w8 2 l.exponent ∷ []
+abbrev pub place_pieces : PostscriptSegment → List Piece
+place_pieces s = number w64 0 s.offset ∷ number w32 1 s.length ∷ number w8 2 s.alignment ∷ []
 
-abbrev pub postscript_pieces : Tables → List Piece
-postscript_pieces t = table 0 (locator_pieces t.dtype) ∷ table 1 (locator_pieces t.layout) ∷ table 3 (locator_pieces t.footer) ∷ []
+abbrev pub postscript_pieces : Places → List Piece
+postscript_pieces t = table 0 (place_pieces t.dtype) ∷ table 1 (place_pieces t.layout) ∷ table 3 (place_pieces t.footer) ∷ []
 
 -- ---- the bytes of each table
 
-unfoldable pub ptype_bytes : PType → List ℕ
-ptype_bytes ptype = root_bytes (dtype_pieces ptype)
+abbrev pub dtype_bytes : FooterContent → List ℕ
+dtype_bytes f = root_bytes (pieces_of (dtype_of f.layout))
 
-unfoldable pub rows_bytes : ℕ → ℕ → List ℕ
-rows_bytes rows segment = root_bytes (layout_pieces rows segment)
+abbrev pub layout_bytes : FooterContent → List ℕ
+layout_bytes f = root_bytes (tree_pieces (flat_id ∷ []) f.layout)
 
 unfoldable pub ids_bytes : List (List ℕ) → List SegmentSpec → List ℕ
 ids_bytes ids specs = root_bytes (footer_pieces ids specs)
 
-unfoldable pub places_bytes : Tables → List ℕ
+unfoldable pub places_bytes : Places → List ℕ
 places_bytes t = root_bytes (postscript_pieces t)
 
-abbrev pub dtype_bytes : Footer → List ℕ
-dtype_bytes f = ptype_bytes f.ptype
-
-abbrev pub layout_bytes : Footer → List ℕ
-layout_bytes f = rows_bytes f.row_count f.segment.0
-
-abbrev pub footer_bytes : Footer → List ℕ
+abbrev pub footer_bytes : FooterContent → List ℕ
 footer_bytes f = ids_bytes f.array_ids f.segments
 
 -- ---- where the tables lie, one behind the other
 
 -- a table's place; each claims an alignment of 2^3 bytes, wherever it lies
-abbrev pub place : ℕ → List ℕ → Locator
-place at bytes = record { offset = at; length = length bytes; exponent = 3; is_coded = false }
+abbrev pub place : ℕ → List ℕ → PostscriptSegment
+place at bytes = record { offset = at; length = length bytes; alignment = 3 }
 
 -- the tables of these bytes, the first of which begins at an offset
-abbrev pub places : ℕ → List ℕ → List ℕ → List ℕ → Tables
+abbrev pub places : ℕ → List ℕ → List ℕ → List ℕ → Places
 places at dtype layout footer = record {
   dtype = place at dtype;
   layout = place (at + length dtype) layout;
@@ -94,24 +87,36 @@ tables_end at dtype layout footer = at + length dtype + length layout + length f
 
 -- ---- what follows the segments
 
-abbrev pub postscript_bytes : ℕ → Footer → List ℕ
-postscript_bytes at f = places_bytes (places at (dtype_bytes f) (layout_bytes f) (footer_bytes f))
-
 -- the version, the postscript's length, and the magic
 abbrev pub end_marker : ℕ → List ℕ
 end_marker size = to_le_bytes w16 1 ++ to_le_bytes w16 size ++ codes "VTXF"
 
 -- the parts that follow the segments, where the first begins at an offset
-abbrev pub parts : ℕ → Footer → List (List ℕ)
-parts at f = dtype_bytes f ∷ layout_bytes f ∷ footer_bytes f ∷ postscript_bytes at f ∷ end_marker (length (postscript_bytes at f)) ∷ []
+abbrev pub parts_of : ℕ → List ℕ → List ℕ → List ℕ → List (List ℕ)
+parts_of at dtype layout footer =
+    let postscript = places_bytes (places at dtype layout footer) in
+    dtype ∷ layout ∷ footer ∷ postscript ∷ end_marker (length postscript) ∷ []
+
+abbrev pub postscript_bytes : ℕ → FooterContent → List ℕ
+postscript_bytes at f = places_bytes (places at (dtype_bytes f) (layout_bytes f) (footer_bytes f))
 
 -- all bytes that follow the segments
-abbrev pub serialized : ℕ → Footer → List ℕ
+abbrev pub serialized : ℕ → FooterContent → List ℕ
 serialized at f = dtype_bytes f ++ layout_bytes f ++ footer_bytes f ++ postscript_bytes at f ++ end_marker (length (postscript_bytes at f))
 
 -- ---- refusals
 
 -- which refusal of a footer a refusal of a table is
+abbrev pub of_write : TableWriteError → SerializeError
+of_write unwritten.TooDeep = TooDeep
+of_write unwritten.TooManyTables = TooManyTables
+of_write unwritten.TableTooLong = SegmentTooLong
+of_write unwritten.OutOfMemory = OutOfMemory
+
+abbrev pub of_written : Result (List ℕ) TableWriteError → Result (List ℕ) SerializeError
+of_written (Ok bytes) = Ok bytes
+of_written (Err e) = Err (of_write e)
+
 abbrev pub of_table : TableError → SerializeError
 of_table refused.TableTooLong = SegmentTooLong
 of_table refused.OutOfMemory = OutOfMemory
@@ -120,18 +125,18 @@ of_table refused.OutOfMemory = OutOfMemory
 abbrev pub segment_of : List ℕ → Result (List ℕ) SerializeError
 segment_of bytes = if nat_lt (length bytes) (2 ^ 32) then Ok bytes else Err SegmentTooLong
 
--- the places, unless the tables end past the last offset
-abbrev pub placed : ℕ → List ℕ → List ℕ → List ℕ → Result Tables SerializeError
+-- the parts, unless the tables end past the last offset
+abbrev pub placed : ℕ → List ℕ → List ℕ → List ℕ → Result Places SerializeError
 placed at dtype layout footer = if nat_lt (tables_end at dtype layout footer) (2 ^ 64) then Ok (places at dtype layout footer) else Err OffsetOverflow
 
--- the parts, unless a table is too long or the tables end past the last offset
-unfoldable pub serialize_checks : ℕ → Footer → Result (List (List ℕ)) SerializeError
+-- the parts, unless a table is too deep, too large or too long, or the tables end past the last offset
+unfoldable pub serialize_checks : ℕ → FooterContent → Result (List (List ℕ)) SerializeError
 serialize_checks at f = do
-  _ ← segment_of (dtype_bytes f)
-  _ ← segment_of (layout_bytes f)
-  _ ← segment_of (footer_bytes f)
-  _ ← placed at (dtype_bytes f) (layout_bytes f) (footer_bytes f)
-  Ok (parts at f)
+  dtype ← of_written (dtype_written (dtype_of f.layout))
+  layout ← of_written (layout_written (flat_id ∷ []) f.layout)
+  footer ← segment_of (footer_bytes f)
+  _ ← placed at dtype layout footer
+  Ok (parts_of at dtype layout footer)
 
 -- ---- what a function answers
 

@@ -1,25 +1,34 @@
 //! Reads the footer of a file from its tail, and writes it.
 #![tactic(auto)]
 
+mod deserializer;
 mod error;
 mod footer;
-mod list;
+mod footer_table;
 mod marker;
-mod opening;
 mod postscript;
-mod ptype;
+mod postscript_table;
 mod read_back;
+mod rows;
 mod serialize_error;
 mod serializing;
-mod table;
-mod table_reading;
+mod sharing;
+mod statistics;
+mod tables;
+mod version;
 
-pub use error::{OpenError, Which};
+pub use deserializer::{DeserializeStep, FooterDeserializer};
+pub use error::{OpenError, PastEnd, Which};
 pub use footer::Footer;
-pub use list::{SegmentSpecs, TextList};
-pub use ptype::PType;
-pub use read_back::written_footer_is_read;
+pub use postscript::{Postscript, PostscriptMetadata, PostscriptSegment};
+pub use read_back::{bytes_are_asked_once, written_footer_is_read};
 pub use serialize_error::SerializeError;
+pub use sharing::may_be_shared;
+pub use statistics::FileStatistics;
+pub use version::{
+    EOF_SIZE, FileVersion, LATEST_VERSION, MAGIC_BYTES, MAX_POSTSCRIPT_SIZE, V1_FOOTER_FBS_SIZE,
+    VERSION, VORTEX_FILE_EXTENSION,
+};
 
 #[cfg(test)]
 mod tests;

@@ -1,7 +1,8 @@
 use super::*;
 use std::alloc::Global;
 use std::test::*;
-use vx_base::{Alignment, ByteBuffer, SegmentId, SegmentSpec};
+use vx_base::{Alignment, ByteBuffer};
+use vx_data::VortexSession;
 
 // The tables, the postscript and the end marker of a file of four numbers. The tables begin at
 // offset 26.
@@ -35,54 +36,58 @@ const TAIL: [u8; 423] = [
     0x00, 0x71, 0x00, 0x56, 0x54, 0x58, 0x46,
 ];
 
-const ARRAY_IDS: [&str; 4] = [
-    "vortex.bool",
-    "vortex.primitive",
-    "vortex.struct",
-    "vortex.varbin",
-];
-
-// The footer of that file.
-fn four_numbers(alloc: Global) -> Result<Footer, Fail> {
-    let mut array_ids = TextList::new(alloc);
-    for id in ARRAY_IDS {
-        array_ids.push(String::from_str(alloc, id)?)?;
-    }
-    let spec = SegmentSpec {
-        offset: 8,
-        length: 18,
-        alignment: Alignment::new(3)?,
-    };
-    Ok(Footer {
-        row_count: 4,
-        ptype: PType::I32,
-        segment: SegmentId(0),
-        segments: SegmentSpecs::new(Vec::from_array(alloc, [spec])?),
-        array_ids,
-    })
+// The file, whose segment is zeros here.
+fn file(alloc: Global) -> Result<Vec<u8>, Fail> {
+    let mut file = Vec::from_slice(alloc, &[0; 26])?;
+    file.extend_from_slice(TAIL.as_slice())?;
+    Ok(file)
 }
 
-fn bytes_of(alloc: Global, buffers: &[ByteBuffer]) -> Result<Vec<u8>, Fail> {
-    let mut bytes = Vec::new(alloc);
-    for buffer in buffers {
-        bytes.extend_from_slice(buffer.as_slice())?;
+fn read(alloc: Global, bytes: &[u8]) -> Result<Option<Footer>, Fail> {
+    let buffer = ByteBuffer::from_vec(alloc, Vec::from_slice(alloc, bytes)?, Alignment::none())?;
+    let session = VortexSession::new(alloc)?;
+    let mut deserializer = Footer::deserializer(buffer, session).with_size(bytes.len() as u64);
+    match deserializer.deserialize(alloc)? {
+        DeserializeStep::Done(footer) => Ok(Some(footer)),
+        _ => Ok(None),
     }
-    Ok(bytes)
 }
 
 #[test]
-fn writes_the_tables_of_four_numbers_and_reads_them(rt: HostRuntime) -> Result<(), Fail> {
-    let footer = four_numbers(rt.alloc())?;
-    let buffers = footer.serialize(rt.alloc(), 26)?;
-    let tail = bytes_of(rt.alloc(), buffers.as_slice())?;
-    assert_eq!(rt; tail.as_slice(), TAIL.as_slice());
-    let mut file = Vec::from_slice(rt.alloc(), &[0; 26])?;
-    file.extend_from_slice(tail.as_slice())?;
-    let read = Footer::read(rt.alloc(), 0, file.as_slice())?;
-    assert_eq!(rt; read.row_count, footer.row_count);
-    assert_eq!(rt; read.ptype, footer.ptype);
-    assert_eq!(rt; read.segment, footer.segment);
-    assert_eq!(rt; read.segments.as_slice(), footer.segments.as_slice());
-    assert_eq!(rt; read.array_ids.as_slice(), footer.array_ids.as_slice());
+fn reads_the_footer_of_four_numbers(rt: HostRuntime) -> Result<(), Fail> {
+    let bytes = file(rt.alloc())?;
+    let footer = read(rt.alloc(), bytes.as_slice())?.ok_or("no footer")?;
+    let footer = footer.share(rt.alloc())?;
+    assert_eq!(rt; footer.version(), FileVersion::V1);
+    assert_eq!(rt; footer.row_count(), 4);
+    assert_eq!(rt; footer.segment_specs_with_metadata().len(), 1);
+    assert!(rt; footer.statistics().is_none());
+    assert_eq!(rt; footer.approx_byte_size(), Some(281));
+    Ok(())
+}
+
+#[test]
+fn prefixed_bytes_are_not_asked_again(rt: HostRuntime) -> Result<(), Fail> {
+    let alloc = rt.alloc();
+    let bytes = file(alloc)?;
+    let last = Vec::from_slice(alloc, bytes.as_slice().get(328..).ok_or("no end")?)?;
+    let buffer = ByteBuffer::from_vec(alloc, last, Alignment::none())?;
+    let session = VortexSession::new(alloc)?;
+    let mut deserializer = Footer::deserializer(buffer, session).with_size(449);
+    let first = deserializer.deserialize(alloc)?;
+    assert!(rt;
+        matches!(
+            first,
+            DeserializeStep::NeedMoreData {
+                offset: 26,
+                len: 302
+            }
+        )
+    );
+    let more = Vec::from_slice(alloc, bytes.as_slice().get(26..328).ok_or("no tables")?)?;
+    deserializer.prefix_data(alloc, ByteBuffer::from_vec(alloc, more, Alignment::none())?)?;
+    assert_eq!(rt; deserializer.buffer().len(), 423);
+    let second = deserializer.deserialize(alloc)?;
+    assert!(rt; matches!(second, DeserializeStep::Done(_)));
     Ok(())
 }

@@ -1,8 +1,12 @@
+pub mod Arms
+pub mod FooterText
+pub mod HexLemmas
+pub mod LayoutLines
 pub mod Lines
 pub mod Lists
 pub mod Noting
-pub mod Runs
-pub mod Statuses
+pub mod Openings
+pub mod Performing
+pub mod StatusRows
 pub mod Streaming
-mod FailureTexts
-mod DemoWords
+pub mod TextLemmas

@@ -2,7 +2,8 @@
 use Rattle.std.proofs.Common.{◌≡◌, ℕ, ◌+◌, ◌*◌, ◌-◌, ◌^◌, ◌<◌, ◌≤◌, Bool, true, false, List, [], ◌∷◌, ◌++◌, length, take, drop, refl, sym, ap, ◌∙◌, cond, nat_eq, add-one, drop-cons, get_or, append_assoc, suc, arith, Some, None, Result, Ok, Err}
 use Rattle.std.proofs.lemmas.List.{drop_all}
 use Rattle.std.proofs.lemmas.Grind.{common_steps}
-use Rattle.vx_main.specs.Script.{line_length, lines_of, onto_first, value_after, number_of, is_plain, with_front, with_step, steps_from, go_on, step_of}
+use Rattle.vx_main.specs.Numbers.{value_after, number_of, is_plain}
+use Rattle.vx_main.specs.Script.{line_length, lines_of, onto_first, with_front, with_step, steps_from, go_on, step_of}
 use Rattle.vx_file.specs.declared.Step.{Step}
 
 first_longer : (byte : ℕ) (rest : List ℕ) (n : ℕ) → lines_of rest ≡ take n rest ∷ lines_of (drop (n + 1) rest) → onto_first byte (lines_of rest) ≡ take (n + 1) (byte ∷ rest) ∷ lines_of (drop (n + 1 + 1) (byte ∷ rest))

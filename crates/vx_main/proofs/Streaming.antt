@@ -6,7 +6,8 @@ use Rattle.vx_base.specs.Counts.{Rises}
 use Rattle.vx_base.specs.Streams.{SourceState}
 use Rattle.vx_main.specs.declared.input.InputError.{InputError}
 use Rattle.vx_main.specs.declared.input.InputError.TheVariants as errors
-use Rattle.vx_main.specs.Streams.{ReadToEnd, TooLong, InputCause, most_input}
+use Rattle.vx_main.specs.Streams.{ReadToEnd, TooLong, InputCause}
+use Rattle.vx_main.specs.declared.input.TheConstants.{MOST_INPUT}
 
 -- ---- input
 
@@ -23,7 +24,7 @@ reading-turn r rest rest' text text' k k' n h t e = (
 )
 
 pub reading-ends : (r : List ℕ) (rest rest' : Option (List ℕ)) (text text' : List ℕ) (k k' n : ℕ) (now : SourceState) → Reading r rest text k
-    → (n ≤ length (drop k r)) × (rest' ≡ Some (drop n (drop k r))) × (text' ≡ text ++ take n (drop k r)) → k' ≡ k + n → drop k r ≡ [] → k ≤ most_input
+    → (n ≤ length (drop k r)) × (rest' ≡ Some (drop n (drop k r))) × (text' ≡ text ++ take n (drop k r)) → k' ≡ k + n → drop k r ≡ [] → k ≤ MOST_INPUT
     → now.rest ≡ rest' → (text' ≡ r) × ReadToEnd r now
 reading-ends r rest rest' text text' k k' n now h t e none bound is =
     let all : take k r ≡ r = sym (append-nil (take k r)) ∙ sym (ap (λ x. take k r ++ x) none) ∙ take-append-drop k r in
@@ -33,7 +34,7 @@ reading-ends r rest rest' text text' k k' n now h t e none bound is =
       record { ended = is ∙ t.1 ∙ ap (λ m. Some (drop m (drop k r))) nothing ∙ ap Some none; short = omega (arith, size) },
     )
 
-pub reading-long : (r : List ℕ) (text : List ℕ) (k : ℕ) (now : SourceState) → Reading r now.rest text k → k ≡ most_input + 1 → TooLong r now
+pub reading-long : (r : List ℕ) (text : List ℕ) (k : ℕ) (now : SourceState) → Reading r now.rest text k → k ≡ MOST_INPUT + 1 → TooLong r now
 reading-long r text k now h e = record { long = omega (arith, h.2); taken = h.0 ∙ ap (λ m. Some (drop m r)) e }
 
 -- ---- faults of an input

@@ -1,9 +1,13 @@
--- What the words of the program say.
-use Rattle.std.specs.Prelude.{ℕ, ℤ, pos, negsuc, zero, suc, ◌^◌, Bool, true, false, ◌&&◌, ◌==◌, nat_lt, nat_le, if◌then◌else◌, List, [], ◌∷◌, ◌++◌, length, codes, Option, Some, None, is_some, unwrap_or}
+-- What the words of the program ask for.
+use Rattle.std.specs.Prelude.{◌≡◌, ℕ, ℤ, Bool, true, false, ◌&&◌, ◌==◌, nat_lt, nat_le, if◌then◌else◌, List, [], ◌∷◌, ◌++◌, length, codes, Option, Some, None, is_some, Result, Ok, Err}
+use Rattle.std.specs.Option.{option_map}
 use Rattle.std.specs.Str.{bytes_eq}
 use Rattle.vx_main.specs.declared.command.Command.{Command}
 use Rattle.vx_main.specs.declared.command.Command.TheVariants.{Help, Version, Serve, Demo}
-use Rattle.vx_main.specs.Script.{number_of}
+use Rattle.vx_main.specs.declared.commands.demo.TheConstants.{MOST_VALUES}
+use Rattle.vx_main.specs.declared.failure.Failure.{Failure}
+use Rattle.vx_main.specs.declared.failure.Failure.TheVariants as failures
+use Rattle.vx_main.specs.Numbers.{value_of}
 
 -- ---- names and values
 
@@ -12,20 +16,8 @@ abbrev pub is_name : List ℕ → Bool
 is_name [] = true
 is_name (byte ∷ bytes) = if byte == 45 then false else true
 
-abbrev pub positive : Option ℕ → Option ℤ
-positive None = None
-positive (Some n) = if nat_lt n (2 ^ 31) then Some (pos n) else None
-
--- the value below 0 of this magnitude
-abbrev pub negative : Option ℕ → Option ℤ
-negative None = None
-negative (Some zero) = None
-negative (Some (suc n)) = if nat_lt n (2 ^ 31) then Some (negsuc n) else None
-
--- the value of 32 bits that a word spells: digits without leading zeros, after a `-` where it is below 0
-abbrev pub value_of : List ℕ → Option ℤ
-value_of [] = None
-value_of (byte ∷ bytes) = if byte == 45 then negative (number_of bytes) else positive (number_of (byte ∷ bytes))
+abbrev pub name_of : List ℕ → Option (List ℕ)
+name_of word = if is_name word then Some word else None
 
 abbrev pub with_value : Option ℤ → Option (List ℤ) → Option (List ℤ)
 with_value None values = None
@@ -42,47 +34,52 @@ abbrev pub after_values : List ℤ → Option (List ℤ) → Option (List ℤ)
 after_values front None = None
 after_values front (Some values) = Some (front ++ values)
 
-abbrev pub most_values : ℕ
-most_values = 8192
+-- ---- commands, each by the words behind its own
 
--- ---- commands
+-- no further word
+abbrev pub alone : Command → List (List ℕ) → Option Command
+alone c [] = Some c
+alone c (word ∷ words) = None
 
-abbrev pub lone_command : List ℕ → Option Command
-lone_command word = if bytes_eq word (codes "--help") then Some Help else if bytes_eq word (codes "--version") then Some Version else None
-
-abbrev pub serve_command : List ℕ → List ℕ → Option Command
-serve_command word name = if bytes_eq word (codes "serve") then (if is_name name then Some Serve else None) else None
-
-abbrev pub plain_command : List ℕ → List (List ℕ) → Option Command
-plain_command word [] = lone_command word
-plain_command word (name ∷ []) = serve_command word name
-plain_command word (name ∷ more ∷ words) = None
+-- one name
+abbrev pub serve_of : List (List ℕ) → Option Command
+serve_of [] = None
+serve_of (word ∷ []) = option_map (λ name. Serve (record { name = name })) (name_of word)
+serve_of (word ∷ more ∷ words) = None
 
 -- at least one value, and at most so many
-abbrev pub demo_command : List (List ℕ) → Option Command
-demo_command words = if nat_lt 0 (length words) && nat_le (length words) most_values && is_some (all_values words) then Some Demo else None
+abbrev pub demo_of : List (List ℕ) → Option Command
+demo_of words = if nat_lt 0 (length words) && nat_le (length words) MOST_VALUES then option_map (λ values. Demo (record { values = values })) (all_values words) else None
 
 -- `--help` and `--version` alone, `serve NAME`, or `demo V ..`
 abbrev pub command_of : List (List ℕ) → Option Command
 command_of [] = None
-command_of (word ∷ words) = if bytes_eq word (codes "demo") then demo_command words else plain_command word words
+command_of (word ∷ words) =
+    if bytes_eq word (codes "serve") then serve_of words
+    else if bytes_eq word (codes "demo") then demo_of words
+    else if bytes_eq word (codes "--help") then alone Help words
+    else if bytes_eq word (codes "--version") then alone Version words
+    else None
 
--- the word behind the first
-abbrev pub name_of : List (List ℕ) → List ℕ
-name_of [] = []
-name_of (word ∷ []) = []
-name_of (word ∷ name ∷ words) = name
+-- what reading a command from words gave, where this is the command
+abbrev pub Parses : {A : Type 0} → Option A → Result A Failure → Type 0
+Parses o (Ok command) = o ≡ Some command
+Parses o (Err failures.Usage) = o ≡ None
+Parses o (Err failures.OutOfMemory) = is_some o ≡ true
+Parses o (Err _) = ⊥
 
--- the values that the words behind the first spell
-abbrev pub values_of : List (List ℕ) → List ℤ
-values_of [] = []
-values_of (word ∷ words) = unwrap_or (all_values words) []
+-- ---- what a command touches
 
--- what the words say
-pub record Words : Type 0 where
-  pub command : Option Command
-  pub name : List ℕ
-  pub values : List ℤ
+-- the names of the files that it opens
+abbrev pub names_of : Command → List (List ℕ)
+names_of Help = []
+names_of Version = []
+names_of (Serve s) = s.name ∷ []
+names_of (Demo d) = []
 
-abbrev pub words_of : List (List ℕ) → Words
-words_of words = record { command = command_of words; name = name_of words; values = values_of words }
+-- whether it reads a script from its input
+abbrev pub reads_script : Command → Bool
+reads_script Help = false
+reads_script Version = false
+reads_script (Serve s) = true
+reads_script (Demo d) = true

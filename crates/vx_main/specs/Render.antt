@@ -1,13 +1,22 @@
 -- The text of what was served.
-use Rattle.std.specs.Prelude.{ℕ, ◌+◌, ◌/◌, ◌%◌, Bool, true, false, ◌||◌, ◌==◌, nat_lt, if◌then◌else◌, List, [], ◌∷◌, ◌++◌, length, codes, decimal}
-use Rattle.std.specs.Char.{is_ascii_alphanumeric}
+use Rattle.std.specs.Prelude.{ℕ, ◌+◌, Bool, true, false, List, [], ◌∷◌, ◌++◌, length, codes, decimal, Option, Some, None}
 use Rattle.std.specs.List.{flat_map}
 use Rattle.hex.specs.Hex.{encode_lower}
 use Rattle.vx_base.specs.FaultName.{fault_name}
 use Rattle.vx_base.specs.declared.segment.SegmentSpec.{SegmentSpec}
-use Rattle.vx_footer.specs.declared.footer.Footer.{Footer}
-use Rattle.vx_footer.specs.declared.ptype.PType.{PType}
-use Rattle.vx_footer.specs.declared.ptype.PType.TheVariants.{U8, U16, U32, U64, I8, I16, I32, I64}
+use Rattle.vx_base.specs.Counts.{next_count}
+use Rattle.vx_data.specs.declared.layout_kind.LayoutKind.{LayoutKind}
+use Rattle.vx_data.specs.declared.layout_kind.LayoutKind.TheVariants.{Flat, Chunked, Struct}
+use Rattle.vx_data.specs.declared.stats_set.Precision.{Precision}
+use Rattle.vx_data.specs.declared.stats_set.Precision.TheVariants.{Exact, Inexact}
+use Rattle.vx_data.specs.Dtype.{Dtype}
+use Rattle.vx_data.specs.Layout.{LayoutTree, node, Layouts, no_layouts, a_layout, dtype_of, rows_of}
+use Rattle.vx_data.specs.Scalar.{Value, scalar_text}
+use Rattle.vx_data.specs.Stats.{Stats}
+use Rattle.vx_data.specs.Texts.{quoted, dtype_text}
+use Rattle.vx_footer.specs.declared.postscript.PostscriptMetadata.{PostscriptMetadata}
+use Rattle.vx_footer.specs.FileStats.{FileStats}
+use Rattle.vx_footer.specs.Footers.{FooterContent}
 use Rattle.vx_sched.specs.declared.fault.Fault.{Fault}
 use Rattle.vx_sched.specs.declared.fault.Place.{Place}
 use Rattle.vx_sched.specs.declared.fault.Place.TheVariants.{Size, Range}
@@ -33,48 +42,59 @@ abbrev pub numbered : {A : Type 0} → (ℕ → A → List ℕ) → ℕ → List
 numbered text i [] = []
 numbered text i (x ∷ xs) = text i x ++ numbered text (i + 1) xs
 
--- ---- quoted text
-
--- letters, digits, `_`, `.` and `-` stand for themselves
-abbrev pub is_quote_plain : ℕ → Bool
-is_quote_plain byte = is_ascii_alphanumeric byte || (byte == 95) || (byte == 46) || (byte == 45)
-
-abbrev pub upper_hex_digit : ℕ → ℕ
-upper_hex_digit n = if nat_lt n 10 then 48 + n else 55 + n
-
-abbrev pub quoted_byte : ℕ → List ℕ
-quoted_byte byte = if is_quote_plain byte then byte ∷ [] else 37 ∷ upper_hex_digit (byte / 16) ∷ upper_hex_digit (byte % 16) ∷ []
-
--- the empty text is `%`
-abbrev pub quoted : List ℕ → List ℕ
-quoted [] = 37 ∷ []
-quoted (byte ∷ bytes) = flat_map quoted_byte (byte ∷ bytes)
-
 -- ---- the footer
 
-abbrev pub ptype_name : PType → List ℕ
-ptype_name U8 = codes "u8"
-ptype_name U16 = codes "u16"
-ptype_name U32 = codes "u32"
-ptype_name U64 = codes "u64"
-ptype_name I8 = codes "i8"
-ptype_name I16 = codes "i16"
-ptype_name I32 = codes "i32"
-ptype_name I64 = codes "i64"
+abbrev pub dtype_line : Dtype → List ℕ
+dtype_line dtype = codes "dtype " ++ dtype_text dtype ++ 10 ∷ []
 
-abbrev pub dtype_line : PType → List ℕ
-dtype_line ptype = codes "dtype " ++ ptype_name ptype ++ 10 ∷ []
+abbrev pub kind_name : LayoutKind → List ℕ
+kind_name Flat = codes "flat"
+kind_name Chunked = codes "chunked"
+kind_name Struct = codes "struct"
+
+-- how far below the root, the kind, the rows, and the segment of a flat one
+abbrev pub layout_line : ℕ → LayoutKind → ℕ → List ℕ → List ℕ
+layout_line depth kind rows segments = codes "layout " ++ decimal depth ++ codes " " ++ kind_name kind ++ numbers_after (rows ∷ segments) ++ 10 ∷ []
+
+-- a layout's line, and behind it those of the layouts below
+abbrev mutual
+  pub layout_lines : ℕ → LayoutTree → List ℕ
+  layout_lines depth (node kind dtype rows segments children) = layout_line depth kind rows segments ++ layouts_lines (next_count depth) children
+
+  pub layouts_lines : ℕ → Layouts → List ℕ
+  layouts_lines depth no_layouts = []
+  layouts_lines depth (a_layout layout layouts) = layout_lines depth layout ++ layouts_lines depth layouts
 
 abbrev pub segment_line : ℕ → SegmentSpec → List ℕ
 segment_line i s = line (codes "segment") (i ∷ s.offset ∷ s.length ∷ s.alignment ∷ [])
 
-abbrev pub array_line : ℕ → List ℕ → List ℕ
-array_line i id = words (codes "array ") [] ++ decimal i ++ 32 ∷ quoted id ++ 10 ∷ []
+-- `=` before an exact value, `?` before one that is a bound
+abbrev pub precision_mark : Precision → List ℕ
+precision_mark Exact = codes " ="
+precision_mark Inexact = codes " ?"
 
-abbrev pub footer_text : Footer → List ℕ
+-- `.` where a statistic is not known
+abbrev pub stat_words : Option (Value × Precision) → List ℕ
+stat_words None = codes " ."
+stat_words (Some stat) = precision_mark stat.1 ++ scalar_text stat.0
+
+abbrev pub stats_line : ℕ → Stats → List ℕ
+stats_line i s = codes "stats " ++ decimal i ++ stat_words s.min ++ stat_words s.max ++ stat_words s.null_count ++ 10 ∷ []
+
+abbrev pub stats_lines : Option FileStats → List ℕ
+stats_lines None = []
+stats_lines (Some statistics) = numbered stats_line 0 statistics.sets
+
+abbrev pub array_line : ℕ → List ℕ → List ℕ
+array_line i id = codes "array " ++ decimal i ++ codes " " ++ quoted id ++ 10 ∷ []
+
+abbrev pub meta_line : PostscriptMetadata → List ℕ
+meta_line m = codes "meta " ++ quoted m.key ++ numbers_after (m.segment.offset ∷ m.segment.length ∷ m.segment.alignment ∷ []) ++ 10 ∷ []
+
+abbrev pub footer_text : FooterContent → List ℕ
 footer_text f =
-    line (codes "rows") (f.row_count ∷ []) ++ dtype_line f.ptype ++ line (codes "layout 0 flat") (f.row_count ∷ f.segment.0 ∷ [])
-    ++ numbered segment_line 0 f.segments ++ numbered array_line 0 f.array_ids
+    line (codes "rows") (rows_of f.layout ∷ []) ++ dtype_line (dtype_of f.layout) ++ layout_lines 0 f.layout ++ numbered segment_line 0 f.segments ++
+    stats_lines f.statistics ++ numbered array_line 0 f.array_ids ++ flat_map meta_line f.metadata
 
 -- ---- replies
 
@@ -114,4 +134,4 @@ reply_text (Driven spans) = line (codes "driven") (length spans ∷ []) ++ flat_
 
 -- the text of what was served: the footer, the opening ranges, and the replies
 abbrev pub render_text : Served → List ℕ
-render_text s = footer_text s.footer ++ flat_map read_line s.opening ++ flat_map reply_text s.replies
+render_text s = footer_text s.footer.content ++ flat_map read_line s.opening ++ flat_map reply_text s.replies

@@ -1,27 +1,12 @@
 -- The script that a text spells: one step a line.
 use Rattle.std.specs.Prelude.{◌+◌, ◌*◌, ◌-◌, ◌^◌, ◌≡◌, ◌++◌, ℕ, Bool, false, ◌&&◌, length, codes, ◌==◌, nat_lt, if◌then◌else◌, List, [], ◌∷◌, Option, Some, None, Result, Ok, Err, Vec}
-use Rattle.std.specs.List.{list_all}
-use Rattle.std.specs.Char.{is_ascii_digit}
 use Rattle.std.specs.Str.{bytes_eq}
 use Rattle.std.specs.declared.alloc.Global.{Global}
 use Rattle.vx_main.specs.declared.script.ScriptError.{ScriptError}
 use Rattle.vx_main.specs.declared.script.ScriptError.TheVariants.{Line, OutOfMemory}
 use Rattle.vx_file.specs.declared.Step.{Step}
 use Rattle.vx_file.specs.declared.Step.TheVariants.{Register, Poll, Drive}
-
--- digits without a leading zero: one spelling for each number
-abbrev pub is_plain : List ℕ → Bool
-is_plain [] = false
-is_plain (digit ∷ digits) = if digit == 48 then nat_lt (length digits) 1 else list_all is_ascii_digit (digit ∷ digits)
-
--- the value of digits that stand after those of another number
-abbrev pub value_after : ℕ → List ℕ → ℕ
-value_after before [] = before
-value_after before (digit ∷ digits) = value_after (10 * before + (digit - 48)) digits
-
--- the number of 64 bits that a text spells
-unfoldable pub number_of : List ℕ → Option ℕ
-number_of text = if is_plain text && nat_lt (value_after 0 text) (2 ^ 64) then Some (value_after 0 text) else None
+use Rattle.vx_main.specs.Numbers.{number_of}
 
 abbrev pub register_of : Option ℕ → Option Step
 register_of None = None

@@ -4,20 +4,17 @@ use Rattle.vx_base.specs.Counts.{Rises}
 use Rattle.vx_base.specs.Streams.{SourceState}
 use Rattle.vx_main.specs.declared.input.InputError.{InputError}
 use Rattle.vx_main.specs.declared.input.InputError.TheVariants as errors
-
--- an input has at most so many bytes
-abbrev pub most_input : ℕ
-most_input = 67108864
+use Rattle.vx_main.specs.declared.input.TheConstants.{MOST_INPUT}
 
 -- the input was read to its end, and this is all of it
 pub record ReadToEnd (text : List ℕ) (now : SourceState) : Type 0 where
   pub ended : now.rest ≡ Some []
-  pub short : length text ≤ most_input
+  pub short : length text ≤ MOST_INPUT
 
 -- one byte more was taken than an input may have
 pub record TooLong (text : List ℕ) (now : SourceState) : Type 0 where
-  pub long : most_input < length text
-  pub taken : now.rest ≡ Some (drop (most_input + 1) text)
+  pub long : MOST_INPUT < length text
+  pub taken : now.rest ≡ Some (drop (MOST_INPUT + 1) text)
 
 -- what was taken of an input has its cause
 abbrev pub InputCause : {A : Type 0} → (A → List ℕ) → SourceState → SourceState → Result A InputError → Type 0

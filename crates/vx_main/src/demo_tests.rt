@@ -115,7 +115,7 @@ fn words_that_spell_no_value_are_usage(rt: HostRuntime) -> Result<(), Fail> {
 }
 
 #[test]
-fn bad_scripts_and_failing_outputs_are_told(rt: HostRuntime) -> Result<(), Fail> {
+fn bad_scripts_and_failing_outputs_are_reported(rt: HostRuntime) -> Result<(), Fail> {
     let alloc = rt.alloc();
     let words = words_of(alloc, &["1"])?;
     let left = demo(alloc, words.as_slice(), "go\nx", Vec::new(alloc))?;

@@ -1,16 +1,22 @@
-//! Why the program fails: its statuses and their texts.
-ghost use Rattle.std.specs.Prelude.{◌≡◌};
+//! Why the program fails: its statuses and their lines.
+ghost use Rattle.std.specs.Prelude.{◌≡◌, codes, decimal, ◌++◌};
+ghost use Rattle.vx_main.specs.Failures.{status_of, failure_words, message_of, read_words};
+ghost use Rattle.vx_main.specs.Text.{Adds, Writes};
+ghost use Rattle.vx_main.specs.Runs.{Reports};
 ghost use Rattle.vx_base.specs.Streams.{SameSink};
-ghost use Rattle.vx_main.specs.Run.{Tells, status_of, message_of};
 
-use crate::telling::{tell, tell_line, tell_name, tell_read};
+use crate::name::Name;
+use crate::print::fault::put_fault;
+use crate::refusal::refusal_name;
+use crate::text::TextOut;
 use std::alloc::{AllocError, Global};
-use vx_base::Sink;
-use vx_sched::Fault;
+use vx_base::{Sink, SinkError};
+use vx_footer::OpenError;
+use vx_sched::{Fault, Place};
 
 /// Why no text was printed, or not all of it.
-#[derive(Clone, Copy, Debug, PartialEq, Eq)]
-pub enum Failure {
+#[derive(Drop)]
+pub enum Failure<'a> {
     /// The words are no command.
     Usage,
     /// The first line of the script that is no step, counted from 1.
@@ -18,65 +24,99 @@ pub enum Failure {
     /// The script registers a segment twice.
     Script,
     /// The file fails an opening check.
-    Refused,
+    Refused(OpenError),
     /// The file could not be read.
     Read(Fault),
     /// The input could not be read.
     Input,
     /// The output could not be written.
     Output,
-    /// The file could not be opened.
-    Open,
+    /// The file of a name could not be opened.
+    Open(Name<'a>),
     /// The input has more bytes than it may.
     InputTooLong,
     OutOfMemory,
 }
 
-impl From<AllocError> for Failure {
+impl<'a> From<AllocError> for Failure<'a> {
     ghost use Rattle.std.specs.Prelude.{◌≡◌};
     ghost use Rattle.vx_main.specs.declared.failure.Failure.TheVariants.{OutOfMemory};
 
     ghost from_gives = { λ _ e. e ≡ OutOfMemory };
 
-    fn from(_error: AllocError) -> Failure {
+    fn from(_error: AllocError) -> Failure<'a> {
         Failure::OutOfMemory
     }
 }
 
-impl Failure {
+fn put_read<S: Sink>(fault: &Fault, text: &mut TextOut, err: &mut S)
+    ensures { Adds (codes "read " ++ read_words fault.now fault.now.place) text.old (S.state err.old) text.new (S.state err.new) }
+{
+    text.word(err, b"read ");
+    match fault.place() {
+        Place::Size => text.word(err, b"size"),
+        Place::Range { .. } => put_fault(fault, text, err),
+    }
+}
+
+impl<'a> Failure<'a> {
     /// The exit status.
-    pub fn status(&self) -> u8
+    pub(crate) fn status(&self) -> u8
         ensures { result ≡ status_of self.now }
     {
         match self {
             Failure::Usage => 2,
             Failure::Line(_) | Failure::Script => 3,
-            Failure::Refused => 4,
+            Failure::Refused(_) => 4,
             Failure::Read(_) => 5,
             Failure::Input => 6,
             Failure::Output => 7,
-            Failure::Open => 8,
+            Failure::Open(_) => 8,
             Failure::InputTooLong => 9,
             Failure::OutOfMemory => 70,
         }
     }
 
-    /// Writes the line for the error stream. What the stream answers changes nothing.
-    pub(crate) fn tell<E: Sink>(&self, alloc: Global, err: &mut E, name: &str)
-        ensures told { Tells (message_of self.now name.now) (E.state err.old) (E.state err.new) }
-        ensures same { SameSink (E.state err.old) (E.state err.new) }
+    fn put_words<S: Sink>(&self, text: &mut TextOut, err: &mut S)
+        ensures { Adds (failure_words self.now) text.old (S.state err.old) text.new (S.state err.new) }
     {
         match self {
-            Failure::Usage => tell(alloc, err, &[b"vx: usage\n".as_slice()]),
-            Failure::Line(line) => tell_line(alloc, err, *line),
-            Failure::Script => tell(alloc, err, &[b"vx: script\n".as_slice()]),
-            Failure::Refused => tell(alloc, err, &[b"vx: Refused\n".as_slice()]),
-            Failure::Read(fault) => tell_read(alloc, err, fault),
-            Failure::Input => tell(alloc, err, &[b"vx: input\n".as_slice()]),
-            Failure::Output => tell(alloc, err, &[b"vx: output\n".as_slice()]),
-            Failure::Open => tell_name(alloc, err, name),
-            Failure::InputTooLong => tell(alloc, err, &[b"vx: input too long\n".as_slice()]),
-            Failure::OutOfMemory => tell(alloc, err, &[b"vx: memory\n".as_slice()]),
+            Failure::Usage => text.word(err, b"usage"),
+            Failure::Line(line) => {
+                text.word(err, b"line ");
+                text.number(err, *line)
+            }
+            Failure::Script => text.word(err, b"script"),
+            Failure::Refused(refusal) => text.word(err, refusal_name(*refusal).as_bytes()),
+            Failure::Read(fault) => put_read(fault, text, err),
+            Failure::Input => text.word(err, b"input"),
+            Failure::Output => text.word(err, b"output"),
+            Failure::Open(name) => {
+                text.word(err, b"open ");
+                text.word(err, name.as_str().as_bytes())
+            }
+            Failure::InputTooLong => text.word(err, b"input too long"),
+            Failure::OutOfMemory => text.word(err, b"memory"),
         }
+    }
+
+    /// Writes the line for the error stream.
+    fn print<S: Sink>(&self, alloc: Global, err: &mut S) -> Result<(), SinkError>
+        ensures { Writes (message_of self.now) (S.state err.old) (S.state err.new) result }
+    {
+        let mut text = TextOut::new(alloc);
+        text.word(err, b"vx: ");
+        self.put_words(&mut text, err);
+        text.end_line(err);
+        text.finish(err)
+    }
+
+    /// Writes the line for the error stream. What the stream answers changes nothing.
+    #[tactic(auto, using(crate::proofs::TextLemmas::reports))]
+    pub(crate) fn report<S: Sink>(&self, alloc: Global, err: &mut S)
+        ensures reported { Reports (message_of self.now) (S.state err.old) (S.state err.new) }
+        ensures same { SameSink (S.state err.old) (S.state err.new) }
+    {
+        let _ = self.print(alloc, err);
     }
 }

@@ -1,12 +1,18 @@
-//! Reads an input to its end.
-ghost use Rattle.std.specs.Prelude.{◌≡◌, ◌+◌, ◌≤◌, ◌<◌, ℕ, List, [], ◌++◌, length, vec_len, take, drop, Some, true, IfOk, OnErr};
+//! Reads the script on an input.
+ghost use Rattle.std.specs.Prelude.{◌≡◌, ◌+◌, ◌≤◌, ◌<◌, ℕ, List, [], ◌++◌, length, vec_len, take, drop, Some, true, false, IfOk, OnErr};
 ghost use Rattle.vx_base.specs.Counts.{Rises};
 ghost use Rattle.vx_base.specs.Streams.{SameSource};
-ghost use Rattle.vx_main.specs.Streams.{InputCause, most_input};
+ghost use Rattle.vx_file.specs.Serving.{repeats};
+ghost use Rattle.vx_main.specs.Input.{ScriptCause, StepsCause, script_failure};
+ghost use Rattle.vx_main.specs.Streams.{InputCause};
 ghost use Rattle.vx_main.specs.declared.input.InputError.TheVariants as errors;
 
+use crate::failure::Failure;
+use crate::repeats::has_repeats;
+use crate::script::{self, ScriptError};
 use std::alloc::{AllocError, Global};
 use vx_base::Source;
+use vx_file::Step;
 
 /// The most bytes that an input may have.
 pub const MOST_INPUT: usize = 67_108_864;
@@ -81,4 +87,47 @@ pub(crate) fn read_input<I: Source>(alloc: Global, input: &mut I) -> Result<Vec<
         }
     }
     Err(InputError::TooLong)
+}
+
+/// Why a text is no script.
+fn failure_of<'a>(error: ScriptError) -> Failure<'a>
+    ensures { result ≡ script_failure error }
+{
+    match error {
+        ScriptError::Line(line) => Failure::Line(line),
+        ScriptError::OutOfMemory => Failure::OutOfMemory,
+    }
+}
+
+/// The steps of a script, which registers no segment twice.
+fn steps_of<'a>(alloc: Global, text: &[u8]) -> Result<Vec<Step>, Failure<'a>>
+    ensures { StepsCause text.now result }
+{
+    let steps = match script::read(alloc, text) {
+        Ok(steps) => steps,
+        Err(error) => return Err(failure_of(error)),
+    };
+    if has_repeats(alloc, steps.as_slice())? {
+        return Err(Failure::Script);
+    }
+    Ok(steps)
+}
+
+/// The script that an input spells.
+pub(crate) fn load_script<'a, I: Source>(
+    alloc: Global,
+    input: &mut I,
+) -> Result<Vec<Step>, Failure<'a>>
+    ensures cause { ScriptCause (I.state input.old) (I.state input.new) result }
+    ensures distinct { IfOk result (λ steps. repeats [] steps.items ≡ false) }
+    ensures steady { (I.state input.old).never_fails ≡ true → (I.state input.new).faults ≡ (I.state input.old).faults }
+    ensures same { SameSource (I.state input.old) (I.state input.new) }
+{
+    let text = match read_input(alloc, input) {
+        Ok(text) => text,
+        Err(InputError::Failed) => return Err(Failure::Input),
+        Err(InputError::TooLong) => return Err(Failure::InputTooLong),
+        Err(InputError::OutOfMemory) => return Err(Failure::OutOfMemory),
+    };
+    steps_of(alloc, text.as_slice())
 }

@@ -1,26 +1,32 @@
 //! The program `vx`: serves the segments of a file, or of one that it writes, by a script.
-#![tactic(auto)]
+#![tactic(auto, using(crate::proofs::TextLemmas::adds_then, crate::proofs::TextLemmas::adds_nothing))]
 
+mod answer;
 mod command;
-mod demo;
+mod commands;
 #[cfg(test)]
 mod demo_tests;
 #[cfg(test)]
 mod example;
 mod failure;
 mod input;
+mod laws;
 mod memory;
+mod name;
+mod numbers;
+mod print;
+mod printable;
 #[cfg(test)]
 mod real_tests;
-mod render;
+mod refusal;
 mod repeats;
 mod run;
 mod script;
 #[cfg(test)]
 mod stream_tests;
-mod telling;
 #[cfg(test)]
 mod tests;
+mod text;
 mod words;
 
 use std::process::ExitCode;
@@ -33,7 +39,7 @@ fn main(rt: HostRuntime) -> ExitCode {
         Ok(words) => words,
         Err(error) => {
             let failure = words::unread(error.kind());
-            return ExitCode::from(run::fail(alloc, &mut err, failure, ""));
+            return ExitCode::from(run::fail(alloc, &mut err, &failure));
         }
     };
     let mut input = StdSource::new(rt.stdin());

@@ -1,10 +1,10 @@
 //! Scripts: a step a line.
 
-ghost use Rattle.std.specs.Prelude.{◌≡◌, ℕ, ◌+◌, ◌<◌, ◌≤◌, ◌∷◌, [], List, length, drop};
-ghost use Rattle.std.specs.List.{list_all};
-ghost use Rattle.std.specs.Char.{is_ascii_digit};
-ghost use Rattle.vx_main.specs.Script.{number_of, register_of, poll_of, numbered_step, step_of, lines_of, line_length, is_plain as is_plain_text, script_of, Reads};
+ghost use Rattle.std.specs.Prelude.{◌≡◌, ◌+◌, ◌≤◌, length, drop};
+ghost use Rattle.vx_main.specs.Numbers.{number_of};
+ghost use Rattle.vx_main.specs.Script.{register_of, poll_of, numbered_step, step_of, lines_of, line_length, script_of, Reads};
 
+use crate::numbers::number;
 use std::alloc::{AllocError, AllocFailed, Global};
 use vx_file::Step;
 
@@ -26,42 +26,6 @@ impl<T: Drop> From<AllocFailed<T>> for ScriptError {
     fn from(_failed: AllocFailed<T>) -> ScriptError {
         ScriptError::OutOfMemory
     }
-}
-
-fn are_digits(text: &[u8]) -> bool
-    ensures { result ≡ list_all is_ascii_digit text.now }
-{
-    text.iter().all(|byte| byte.is_ascii_digit())
-}
-
-// One spelling for each number: no leading zero.
-fn is_plain(text: &[u8]) -> bool
-    ensures { result ≡ is_plain_text text.now }
-{
-    if text.is_empty() {
-        return false;
-    }
-    if text[0] == b'0' {
-        return text.len() == 1;
-    }
-    are_digits(text)
-}
-
-/// The number that decimal digits spell, without sign or leading zero, below 2^64.
-#[tactic(auto, unfolding(crate::specs::Script::number_of))]
-pub(crate) fn number(text: &[u8]) -> Option<u64>
-    ensures { result ≡ number_of text.now }
-{
-    if !is_plain(text) {
-        return None;
-    }
-    let mut value = 0u64;
-    for digit in text {
-        value = value
-            .checked_mul(10)?
-            .checked_add(u64::from(digit.saturating_sub(b'0')))?;
-    }
-    Some(value)
 }
 
 fn register(segment: Option<u64>) -> Option<Step>

@@ -89,7 +89,7 @@ fn an_input_without_an_end_is_too_long(rt: HostRuntime) -> Result<(), Fail> {
 }
 
 #[test]
-fn a_write_without_memory_is_told(rt: HostRuntime) -> Result<(), Fail> {
+fn a_write_without_memory_is_reported(rt: HostRuntime) -> Result<(), Fail> {
     let alloc = rt.alloc();
     let mut out = Starved { writes: 0 };
     let mut err = sink(alloc);
@@ -119,7 +119,7 @@ fn a_failing_error_stream_changes_no_status(rt: HostRuntime) -> Result<(), Fail>
     )?;
     assert_eq!(rt; status, 2);
     assert_eq!(rt; err.writes, 1);
-    let mut failing = MemSink::new(alloc, vec![in alloc; 1]?);
+    let mut failing = MemSink::new(alloc, vec![in alloc; 0]?);
     let status = status_of(
         alloc,
         &["serve", "lost"],
@@ -128,6 +128,6 @@ fn a_failing_error_stream_changes_no_status(rt: HostRuntime) -> Result<(), Fail>
         &mut failing,
     )?;
     assert_eq!(rt; status, 8);
-    assert_eq!(rt; failing.into_bytes().as_slice(), b"vx: open ".as_slice());
+    assert!(rt; failing.into_bytes().is_empty());
     Ok(())
 }

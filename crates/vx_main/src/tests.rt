@@ -198,7 +198,7 @@ fn line_feeds(alloc: Global, count: usize) -> Result<Vec<u8>, AllocError> {
 }
 
 #[test]
-fn numbers_without_a_segment_or_a_read_are_told(rt: HostRuntime) -> Result<(), Fail> {
+fn numbers_without_a_segment_or_a_read_are_answered(rt: HostRuntime) -> Result<(), Fail> {
     let alloc = rt.alloc();
     let left = serve_four(
         alloc,
@@ -226,39 +226,46 @@ fn put(bytes: &mut [u8], place: usize, new: &[u8]) {
 }
 
 #[test]
-fn damaged_files_are_refused(rt: HostRuntime) -> Result<(), Fail> {
+fn damaged_files_are_refused_by_name(rt: HostRuntime) -> Result<(), Fail> {
     let alloc = rt.alloc();
-    let damages: [(usize, &[u8]); 13] = [
-        (441, &[0x02]),
-        (445, &[0x57]),
-        (443, &[0xff, 0xff]),
-        (443, &[0xf7, 0xff]),
-        (338, &[0x00]),
-        (336, &[0x00]),
-        (46, &[0x09]),
-        (411, &[0x01]),
-        (325, &[0x01]),
-        (296, &[0x77]),
-        (83, &[0x00]),
-        (324, &[0x11]),
-        (322, &[0x01]),
+    let damages: [(usize, &[u8], &str); 14] = [
+        (441, &[0x03], "vx: BadVersion\n"),
+        (445, &[0x57], "vx: BadMagic\n"),
+        (443, &[0xff, 0xff], "vx: PostscriptTooLong\n"),
+        (443, &[0xf7, 0xff], "vx: TooSmall\n"),
+        (338, &[0x00], "vx: BadTable(Postscript)\n"),
+        (336, &[0x00], "vx: MissingDType\n"),
+        (46, &[0x09], "vx: Unsupported\n"),
+        (411, &[0x01], "vx: OutOfBounds\n"),
+        (325, &[0x01], "vx: Unsupported\n"),
+        (296, &[0x77], "vx: UnknownEncoding\n"),
+        (83, &[0x00], "vx: BadTable(Layout)\n"),
+        (324, &[0x11], "vx: BadAlignment\n"),
+        (322, &[0x01], "vx: PastEnd\n"),
+        (374, &[0xff], "vx: BadTable(DType)\n"),
     ];
-    for (place, new) in damages {
+    for (place, new, line) in damages {
         let mut file = four(alloc)?;
         put(file.as_mut_slice(), place, new);
         let left = serve_four(alloc, "r 0\np 0\n", file, Failing::nowhere(alloc))?;
-        assert!(rt; left.is(4, "", "vx: Refused\n"));
+        assert!(rt; left.is(4, "", line));
     }
     Ok(())
 }
 
+// Whether a run ended with this status, and printed nothing.
+fn refuses(left: &Left) -> bool {
+    left.status == 4 && left.out.is_empty()
+}
+
 // The places at which a byte FF leaves the file in the grammar: those of the first magic and the segment,
-// of the sizes of tables, of the row count, and of numbers that stay small enough or are not looked at.
-const STILL_READ: [usize; 74] = [
+// of whether rows may be null, of the sizes of tables, of the row count, and of numbers that stay small enough
+// or are not looked at.
+const STILL_READ: [usize; 75] = [
     0, 1, 2, 3, 4, 5, 6, 7, 8, 9, 10, 11, 12, 13, 14, 15, 16, 17, 18, 19, 20, 21, 22, 23, 24, 25,
-    32, 33, 53, 54, 59, 60, 71, 72, 73, 74, 75, 76, 77, 78, 87, 88, 89, 90, 97, 98, 143, 144, 170,
-    173, 174, 205, 208, 209, 237, 240, 241, 269, 280, 281, 307, 312, 320, 334, 335, 362, 363, 382,
-    389, 390, 409, 416, 417, 436,
+    32, 33, 45, 53, 54, 59, 60, 71, 72, 73, 74, 75, 76, 77, 78, 87, 88, 89, 90, 97, 98, 143, 144,
+    170, 173, 174, 205, 208, 209, 237, 240, 241, 269, 280, 281, 307, 312, 320, 334, 335, 362, 363,
+    382, 389, 390, 409, 416, 417, 436,
 ];
 
 #[test]
@@ -271,7 +278,7 @@ fn each_byte_set_to_its_greatest_value_is_read_or_refused(rt: HostRuntime) -> Re
         if STILL_READ.as_slice().contains(&place) {
             assert_eq!(rt; left.status, 0);
         } else {
-            assert!(rt; left.is(4, "", "vx: Refused\n"));
+            assert!(rt; refuses(&left));
         }
     }
     Ok(())
@@ -285,7 +292,7 @@ fn each_prefix_of_a_file_is_refused(rt: HostRuntime) -> Result<(), Fail> {
         let part = whole.as_slice().get(..length).ok_or("no prefix")?;
         let file = Vec::from_slice(alloc, part)?;
         let left = serve_four(alloc, "r 0\n", file, Failing::nowhere(alloc))?;
-        assert!(rt; left.is(4, "", "vx: Refused\n"));
+        assert!(rt; refuses(&left));
     }
     Ok(())
 }
@@ -293,14 +300,18 @@ fn each_prefix_of_a_file_is_refused(rt: HostRuntime) -> Result<(), Fail> {
 #[test]
 fn short_files_without_magic_are_refused(rt: HostRuntime) -> Result<(), Fail> {
     let alloc = rt.alloc();
-    for length in [0, 7, 8] {
+    for (length, line) in [
+        (0, "vx: TooSmall\n"),
+        (7, "vx: TooSmall\n"),
+        (8, "vx: BadMagic\n"),
+    ] {
         let left = serve_four(
             alloc,
             "r 0\n",
             line_feeds(alloc, length)?,
             Failing::nowhere(alloc),
         )?;
-        assert!(rt; left.is(4, "", "vx: Refused\n"));
+        assert!(rt; left.is(4, "", line));
     }
     Ok(())
 }
@@ -360,6 +371,42 @@ fn a_failed_span_fails_its_read_alone(rt: HostRuntime) -> Result<(), Fail> {
         "registered 0\ndriven 0\npending\ndriven 1\nspan 8 80010 ReadFault 0\nfailed ReadFault 8 80002\nnot-live\n",
     )?;
     assert!(rt; left.is(0, wanted.as_str(), ""));
+    Ok(())
+}
+
+// The four-value file with its dtype table at 100,000, and so many bytes that it has 200,000.
+fn spread(alloc: Global) -> Result<Vec<u8>, Fail> {
+    let form = four(alloc)?;
+    let mut file = Vec::from_slice(alloc, form.as_slice().get(..26).ok_or("no front")?)?;
+    for _ in 26..100_000 {
+        file.push(0)?;
+    }
+    file.extend_from_slice(form.as_slice().get(26..47).ok_or("no dtype")?)?;
+    for _ in 100_021..199_598 {
+        file.push(0)?;
+    }
+    let mut tables = Vec::from_slice(alloc, form.as_slice().get(47..).ok_or("no tables")?)?;
+    for (place, offset) in [(374, 100_000u64), (401, 199_598), (428, 199_642)] {
+        put(tables.as_mut_slice(), place - 47, &offset.to_le_bytes());
+    }
+    file.extend_from_slice(tables.as_slice())?;
+    Ok(file)
+}
+
+#[test]
+fn a_table_before_the_first_range_is_read_by_a_second(rt: HostRuntime) -> Result<(), Fail> {
+    let alloc = rt.alloc();
+    let left = serve_four(alloc, "r 0", spread(alloc)?, Failing::nowhere(alloc))?;
+    assert!(rt;
+        ends_with(
+            &left,
+            "read 134465 65535\nread 100000 34465\nregistered 0\n"
+        )
+    );
+    let mut failing = Failing::nowhere(alloc);
+    failing.reads = mischief(alloc, 1, MischiefKind::Fail)?;
+    let left = serve_four(alloc, "r 0", spread(alloc)?, failing)?;
+    assert!(rt; left.is(5, "", "vx: read ReadFault 100000 34465\n"));
     Ok(())
 }
 

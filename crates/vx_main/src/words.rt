@@ -15,7 +15,7 @@ pub(crate) fn read_words(rt: &HostRuntime) -> io::Result<Vec<String>> {
 }
 
 /// Why words were not read: memory ran out, or else they are no text and so no command.
-pub(crate) fn unread(kind: ErrorKind) -> Failure
+pub(crate) fn unread<'a>(kind: ErrorKind) -> Failure<'a>
     ensures memory { kind ≡ ErrorKind.OutOfMemory → result ≡ Failure.OutOfMemory }
     ensures no_text { (kind ≡ ErrorKind.OutOfMemory → ⊥) → result ≡ Failure.Usage }
 {

@@ -7,7 +7,13 @@ use Rattle.vx_base.specs.Asking.{logged, names, without_answer, answer_to, mark_
 use Rattle.vx_base.specs.declared.answer.ReadAtRequest.{ReadAtRequest}
 use Rattle.vx_base.specs.declared.answer.RangeAnswer.{RangeAnswer}
 use Rattle.vx_base.specs.declared.fault.Failed.{Failed}
-use Rattle.vx_sched.specs.Outcomes.{outcome_of, outcome_of_result, outcomes_of, mark_of_outcome, log_of, IsOutcomeOf, AreOutcomesOf, HasBytesOf, HaveBytesOf}
+use Rattle.vx_sched.specs.declared.fault.Outcome.{Outcome}
+use Rattle.vx_sched.specs.Outcomes.{outcome_of, outcome_of_result, mark_of_outcome, log_of, IsOutcomeOf, AreOutcomesOf, HasBytesOf, HaveBytesOf}
+
+-- what the answers make of ranges, each by the first answer left that names it
+abbrev pub outcomes_of : List ReadAtRequest → List (RangeAnswer Buffer) → List Outcome
+outcomes_of [] answers = []
+outcomes_of (r ∷ rest) answers = outcome_of r (answer_to r answers) ∷ outcomes_of rest (without_answer r answers)
 
 -- the mark of an outcome is that of its answer
 mark-outcome : (r : ReadAtRequest) (o : Option (RangeAnswer Buffer)) → mark_of_outcome (outcome_of r o) ≡ mark_of_answer r.length o

@@ -1,6 +1,5 @@
 -- The spans of a batch.
-use Rattle.std.proofs.Common.{◌≡◌, ℕ, ◌==◌, min, ◌<◌, ◌≤◌, ◌||◌, max, Bool, true, false, cond, List, [], ◌∷◌, ◌++◌, Option, Some, None, refl, ap, sym, ◌∙◌, subst, arith, append_assoc}
-use Rattle.std.proofs.lemmas.Bool.Decides.{nat_tests}
+use Rattle.std.proofs.Common.{◌≡◌, ℕ, ◌<◌, ◌≤◌, ◌||◌, max, Bool, true, false, cond, List, [], ◌∷◌, ◌++◌, Option, Some, None, refl, ap, sym, ◌∙◌, subst, arith, append_assoc}
 use Rattle.std.proofs.lemmas.Bool.{cases_lt}
 use Rattle.std.proofs.lemmas.List.{append-nil}
 use Rattle.std.proofs.Math.Logic.{⊎_elim}
@@ -9,11 +8,11 @@ use Rattle.std.specs.BTreeMap.{is_at}
 use Rattle.std.specs.BTreeSet.{BTreeSet, contains}
 use Rattle.std.specs.Ordering.{nat_cmp}
 use Rattle.vx_sched.specs.Span.{Span, end_of, AllWithin}
-use Rattle.vx_sched.specs.Reads.{Known, Reads, read_at, waiting_at, polled_at, if_waiting, if_polled, is_waiting, is_polled}
+use Rattle.vx_sched.specs.Reads.{Known, read_at, waiting_at, polled_at, if_waiting, if_polled, is_waiting, is_polled}
 use Rattle.vx_sched.specs.Merging.{Merges, GathersIn, is_listed, is_in_order, is_in_order_after, is_before, first_offset, greatest_end}
 use Rattle.vx_sched.specs.Picks.{free_at}
 use Rattle.vx_sched.specs.Law.{IsSound}
-use Rattle.vx_sched.specs.Scheduling.{Scheduler, NonePolled, NonePolledBelow, taken, all_taken, MergesNow, MergesInTurn}
+use Rattle.vx_sched.specs.Scheduling.{Scheduler, NonePolled, taken, all_taken, MergesNow, MergesInTurn}
 use Rattle.vx_sched.specs.declared.request.ReadRequest.{ReadRequest}
 use Rattle.vx_sched.specs.declared.read.ReadState.{ReadState}
 use Rattle.vx_sched.specs.declared.read.ReadState.TheVariants.{Registered, Polled, InFlight, Resolved}
@@ -93,14 +92,14 @@ pub record SoFar (s : Scheduler) (spans : List Span) (before : BTreeSet ℕ) (fr
   pub alignment : (all_taken s spans).alignment ≡ s.alignment
 
 -- at first
-pub so_far-start : (s : Scheduler) (before : BTreeSet ℕ) (from : ℕ) → IsSound s → before.keys ≡ [] → NonePolledBelow s.reads from → SoFar s [] before from
-so_far-start s before from sound e idle = record {
+pub so_far-start : (s : Scheduler) (before : BTreeSet ℕ) → IsSound s → before.keys ≡ [] → SoFar s [] before 0
+so_far-start s before sound e = record {
   sound = sound;
   sound_now = sound;
   turn = λ rest h. h;
   others = λ q h. refl;
   gone = λ q h. cc (sym h ∙ ap (λ ks. list_any (is_at (nat_cmp q)) ks) e);
-  past = λ q h p. cc (sym p ∙ idle q h);
+  past = λ q h p. absurd (omega arith);
   distance = refl;
   limit = refl;
   alignment = refl;
@@ -184,27 +183,3 @@ module _ (s : Scheduler) (spans : List Span) (before : BTreeSet ℕ) (from : ℕ
 -- the spans so far merge in turn
 pub so_far-merge : (s : Scheduler) (spans : List Span) (before : BTreeSet ℕ) (from : ℕ) → SoFar s spans before from → MergesInTurn s spans
 so_far-merge s spans before from f = rw append-nil at (f.turn [] tt)
-
--- one more number that was looked at
-pub least-step : (r : ReadRequest) (rest : List ReadRequest) (least id : ℕ) → (is_listed (r ∷ rest) id ≡ false → least ≤ id) → is_listed rest id ≡ false → min least r.id ≤ id
-least-step r rest least id before h = at (r.id == id) refl
-  where
-    at : (b : Bool) → (r.id == id) ≡ b → min least r.id ≤ id
-    at true e =
-        let same : r.id ≡ id = grind (arith, nat_tests) in
-        omega arith
-    at false e =
-        let held = before (ap (λ b. b || is_listed rest id) e ∙ h) in
-        omega (arith, held)
-
--- no polled read below a taken span's numbers is left
-pub idle-taken : (s : Scheduler) (span : Span) (from least : ℕ) (reads : Reads) → MergesNow s span → NonePolledBelow s.reads from
-    → ((id : ℕ) → is_listed span.reads id ≡ true → least ≤ id) → ((q : ℕ) → polled_at s.reads q ≡ false → polled_at reads q ≡ false)
-    → NonePolledBelow reads (max from least)
-idle-taken s span from least reads m idle below keeps q l =
-    keeps q (⊎_elim (λ (h : q < from). idle q h)
-    (λ (h : from ≤ q).
-    let bound = below m.next m.merges.serves in
-    let early : q < m.next = omega (arith, bound) in
-    m.least q early)
-    (cases_lt q from))

@@ -9,7 +9,7 @@ use Rattle.std.specs.BTreeMap.{insert_entry, is_at}
 use Rattle.std.specs.Ordering.{nat_cmp, match_ordering, is_eq}
 use Rattle.std.specs.declared.cmp.Ordering.{Ordering}
 use Rattle.std.specs.declared.cmp.Ordering.TheVariants.{Less, Equal, Greater}
-use Rattle.vx_sched.specs.Entries.{Entries, entry_at, after, with_stage, change_found, changed, all_changed}
+use Rattle.vx_sched.specs.Entries.{Entries, entry_at, if_waits, polled_in, after, with_stage, change_found, changed, all_changed}
 use Rattle.vx_sched.specs.Merging.{is_listed}
 use Rattle.vx_sched.specs.declared.request.ReadRequest.{ReadRequest}
 use Rattle.vx_sched.specs.declared.read.Read.{Read}
@@ -17,6 +17,18 @@ use Rattle.vx_sched.specs.declared.read.Stage.{Stage}
 use Rattle.vx_sched.specs.declared.read.Stage.TheVariants.{Registered, Polled, InFlight, Resolved}
 use Rattle.vx_sched.specs.declared.read.Change.{Change}
 use Rattle.vx_sched.specs.declared.read.Change.TheVariants.{Poll, Cancel, Take, Resolve}
+
+-- the waiting read of a number
+abbrev pub waiting_in : Entries → ℕ → Option ReadRequest
+waiting_in entries id = if_waits (entry_at entries id)
+
+abbrev pub if_polls : Option Read → Bool
+if_polls None = false
+if_polls (Some x) = polled_in x.stage
+
+-- whether the read of a number was polled and waits
+abbrev pub polled_entry : Entries → ℕ → Bool
+polled_entry entries id = if_polls (entry_at entries id)
 
 -- a look-up after an entry was put in
 pub lookup-put : (es : Entries) (k q : ℕ) (v : Read) → entry_at (insert_entry nat_cmp es k v) q ≡ cond (k == q) (Some v) (entry_at es q)

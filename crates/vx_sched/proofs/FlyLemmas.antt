@@ -5,7 +5,8 @@ use Rattle.std.proofs.lemmas.Bool.Decides.{nat_tests}
 use Rattle.std.specs.List.{list_all}
 use Rattle.vx_sched.specs.Merging.{is_in_order, is_listed, first_number}
 use Rattle.vx_sched.specs.Reads.{leads_at, has_first, if_leads, change, take_read, resolve_read}
-use Rattle.vx_sched.specs.Entries.{Entries, entry_at, waiting_in, if_waits, flies_under, group, known, seen, all_changed}
+use Rattle.vx_sched.specs.Entries.{Entries, entry_at, if_waits, flies_under, group, known, seen, all_changed}
+use Rattle.vx_sched.proofs.EntriesLemmas.{waiting_in}
 use Rattle.vx_sched.specs.Places.{AreGrouped, size_in}
 use Rattle.vx_sched.specs.Flying.{flies_so, same_read}
 use Rattle.vx_sched.proofs.InsertLemmas.{and-true}

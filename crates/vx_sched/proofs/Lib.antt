@@ -15,7 +15,6 @@ pub mod LawLemmas
 pub mod LawRuns
 pub mod BatchLemmas
 pub mod ChainLemmas
-pub mod BelowLemmas
 pub mod CallLemmas
-pub mod NextLemmas
+pub mod PollLemmas
 pub mod AnswerLemmas

@@ -13,7 +13,8 @@ use Rattle.std.specs.Ordering.{nat_cmp}
 use Rattle.std.specs.declared.cmp.Ordering.TheVariants.{Less}
 use Rattle.vx_sched.specs.Merging.{is_listed}
 use Rattle.vx_sched.specs.Reads.{Known, ranges_in_flight, flights, read_at, waiting_at, polled_at, state_at, has_first, if_waiting, if_polled, if_state, Rise, change, register_read, poll_read, drop_read, take_read, resolve_read}
-use Rattle.vx_sched.specs.Entries.{Entries, entry_at, state_of, waiting_in, if_waits, polled_entry, if_polls, waits_in, flies_under, group, known, seen, changed}
+use Rattle.vx_sched.specs.Entries.{Entries, entry_at, state_of, if_waits, waits_in, flies_under, group, known, seen, changed}
+use Rattle.vx_sched.proofs.EntriesLemmas.{waiting_in, polled_entry, if_polls}
 use Rattle.vx_sched.specs.Counting.{same_state, count_in, is_of, count_of}
 use Rattle.vx_sched.specs.declared.counts.Counts.{Counts}
 use Rattle.vx_sched.specs.declared.counts.Kind.{Kind}

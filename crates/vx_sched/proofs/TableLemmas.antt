@@ -1,5 +1,5 @@
 -- A table of reads and places, after a change.
-use Rattle.std.proofs.Common.{◌≡◌, ℕ, ◌≤◌, ◌||◌, List, [], ◌∷◌, map, max, ◌-◌, ◌<◌, ◌^◌, ◌==◌, ◌&&◌, not, Bool, true, false, cond, Option, Some, None, option_map, refl, ap, sym, ◌∙◌, arith, subst, unwrap_or}
+use Rattle.std.proofs.Common.{◌≡◌, ℕ, ◌≤◌, ◌||◌, List, [], ◌∷◌, map, max, ◌-◌, ◌<◌, ◌^◌, ◌==◌, ◌&&◌, not, Bool, true, false, cond, Option, Some, None, option_map, IfSome, IfNone, refl, ap, sym, ◌∙◌, arith, subst, unwrap_or}
 use Rattle.std.proofs.lemmas.Bool.Decides.{nat_tests}
 use Rattle.std.specs.List.{list_any, filter}
 use Rattle.std.specs.BTreeMap.{is_at}
@@ -10,7 +10,12 @@ use Rattle.std.specs.Ordering.{nat_cmp}
 use Rattle.vx_sched.specs.Span.{end_of}
 use Rattle.std.specs.List.Sorted.{IsStrictlySortedBy}
 use Rattle.std.specs.Map.{keys_of}
-use Rattle.vx_sched.specs.Entries.{Entries, entry_at, waiting_in, if_waits, waits_in, after}
+use Rattle.vx_sched.specs.Entries.{Entries, entry_at, if_waits, waits_in, polled_in, after}
+use Rattle.vx_sched.proofs.EntriesLemmas.{waiting_in, if_polls, polled_entry}
+use Rattle.vx_sched.specs.Reads.{Known, Reads, read_at, waiting_at, polled_at, if_waiting, if_polled, is_waiting, is_polled}
+use Rattle.vx_sched.specs.Polls.{Flags, flag_at, is_raised, AreMarked}
+use Rattle.vx_sched.specs.declared.read.ReadState.{ReadState}
+use Rattle.vx_sched.specs.declared.read.ReadState.TheVariants as state
 use Rattle.vx_sched.specs.Places.{place_cmp, waits_at, stays_waiting, IsKept}
 use Rattle.vx_sched.specs.declared.request.ReadRequest.{ReadRequest}
 use Rattle.vx_sched.specs.declared.read.Read.{Read}
@@ -276,3 +281,78 @@ pub near-none : (reads : Entries) (places : BTreeSet (ℕ × ℕ)) (longest left
 near-none reads places longest left from right first ids t f past id r h l o u =
     let long = waiting-long reads places longest t id r h in
     absurd (omega arith)
+
+-- the flags stay those of the reads where a read changes its stage or goes
+pub marked-changed : (reads reads' : Entries) (flags flags' : Flags) (id : ℕ) (r : ReadRequest) (stage : Option Stage) → AreMarked reads flags
+    → ((q : ℕ) → entry_at reads' q ≡ cond (is_at (nat_cmp id) q) (option_map (λ s. record { request = r; stage = s }) stage) (entry_at reads q))
+    → ((n : ℕ) → flag_at flags' n ≡ cond (is_at (nat_cmp id) n) (option_map polled_in stage) (flag_at flags n)) → AreMarked reads' flags'
+marked-changed reads reads' flags flags' id r stage marked lookups put n =
+    put n ∙ at (is_at (nat_cmp id) n) stage ∙ sym (ap (option_map (λ (x : Read). polled_in x.stage)) (lookups n))
+  where
+    at : (b : Bool) (o : Option Stage) → cond b (option_map polled_in o) (flag_at flags n) ≡ option_map (λ (x : Read). polled_in x.stage) (cond b (option_map (λ s. record { request = r; stage = s }) o) (entry_at reads n))
+    at true None = refl
+    at true (Some s) = refl
+    at false o = marked n
+
+-- and where a read is added
+pub marked-added : (reads reads' : Entries) (flags flags' : Flags) (r : ReadRequest) → AreMarked reads flags
+    → ((q : ℕ) → entry_at reads' q ≡ cond (is_at (nat_cmp r.id) q) (Some (record { request = r; stage = Registered })) (entry_at reads q))
+    → ((n : ℕ) → flag_at flags' n ≡ cond (is_at (nat_cmp r.id) n) (Some false) (flag_at flags n)) → AreMarked reads' flags'
+marked-added reads reads' flags flags' r marked lookups put = marked-changed reads reads' flags flags' r.id r (Some Registered) marked lookups put
+
+-- and where a flag was put in and taken out again
+pub marked-back : (reads reads' : Entries) (flags mid flags' : Flags) (id : ℕ) → AreMarked reads flags → entry_at reads id ≡ None → reads' ≡ reads
+    → ((n : ℕ) → flag_at mid n ≡ cond (is_at (nat_cmp id) n) (Some false) (flag_at flags n))
+    → ((n : ℕ) → flag_at flags' n ≡ cond (is_at (nat_cmp id) n) None (flag_at mid n)) → AreMarked reads' flags'
+marked-back reads reads' flags mid flags' id marked fresh same put back n =
+    back n ∙ at (is_at (nat_cmp id) n) refl ∙ marked n ∙ sym (ap (λ (es : Entries). option_map (λ (x : Read). polled_in x.stage) (entry_at es n)) same)
+  where
+    at : (b : Bool) → is_at (nat_cmp id) n ≡ b → cond b None (flag_at mid n) ≡ flag_at flags n
+    at true e =
+        let here : id ≡ n = grind (arith, nat_tests) in
+        sym (subst (λ m. flag_at flags m ≡ None) here (marked id ∙ ap (option_map (λ (x : Read). polled_in x.stage)) fresh))
+    at false e = put n ∙ ap (λ b. cond b (Some false) (flag_at flags n)) e
+
+-- a raised flag is that of a polled read
+pub raised-polled : (reads : Entries) (flags : Flags) → AreMarked reads flags → (q : ℕ) → is_raised flags q ≡ polled_entry reads q
+raised-polled reads flags marked q = ap (λ o. unwrap_or o false) (marked q) ∙ at (entry_at reads q)
+  where
+    at : (x : Option Read) → unwrap_or (option_map (λ (y : Read). polled_in y.stage) x) false ≡ if_polls x
+    at None = refl
+    at (Some x) = refl
+
+-- a read without an entry has no flag
+pub unmarked : (reads : Entries) (flags : Flags) → AreMarked reads flags → (id : ℕ) → entry_at reads id ≡ None → flag_at flags id ≡ None
+unmarked reads flags marked id e = marked id ∙ ap (option_map (λ (x : Read). polled_in x.stage)) e
+
+-- a polled read has a number in range
+pub polled-small : (reads : Entries) (places : BTreeSet (ℕ × ℕ)) (longest : ℕ) → IsKept reads places longest → (q : ℕ) → polled_entry reads q ≡ true → q < 2 ^ 64
+polled-small reads places longest t q h = at (entry_at reads q) refl h
+  where
+    at : (x : Option Read) → entry_at reads q ≡ x → if_polls x ≡ true → q < 2 ^ 64
+    at None e k = cc
+    at (Some x) e k = t.small q x e
+
+-- a polled read waits
+pub polled-waits : (reads : Reads) (q : ℕ) → polled_at reads q ≡ true → waiting_at reads q ≡ None → ⊥
+polled-waits reads q h n = at (read_at reads q) h n
+  where
+    stage : (r : ReadRequest) (s : ReadState) → is_polled s ≡ true → cond (is_waiting s) (Some r) None ≡ None → ⊥
+    stage r state.Registered p e = cc
+    stage r state.Polled p e = cc
+    stage r state.InFlight p e = cc
+    stage r state.Resolved p e = cc
+
+    at : (x : Option Known) → if_polled x ≡ true → if_waiting x ≡ None → ⊥
+    at None p e = cc
+    at (Some x) p e = stage x.request x.state p e
+
+-- what holds of a number holds of the number of the read that was found under it
+pub found-along : (P : ℕ → Type 0) (id : ℕ) (o : Option ReadRequest) → IfSome o (λ r. (r.id ≡ id) × (end_of r < 2 ^ 64)) → P id → IfSome o (λ r. P r.id)
+found-along P id None k h = tt
+found-along P id (Some r) k h = subst P (sym k.0) h
+
+-- nothing needs to hold where a polled read does not wait
+pub found-some : (P : Type 0) (reads : Reads) (id : ℕ) → polled_at reads id ≡ true → (o : Option ReadRequest) → o ≡ waiting_at reads id → IfNone o P
+found-some P reads id h None e = absurd (polled-waits reads id h (sym e))
+found-some P reads id h (Some r) e = tt

@@ -61,18 +61,6 @@ abbrev pub if_waits : Option Read → Option ReadRequest
 if_waits None = None
 if_waits (Some x) = if waits_in x.stage then Some x.request else None
 
--- the waiting read of a number
-abbrev pub waiting_in : Entries → ℕ → Option ReadRequest
-waiting_in entries id = if_waits (entry_at entries id)
-
-abbrev pub if_polls : Option Read → Bool
-if_polls None = false
-if_polls (Some x) = polled_in x.stage
-
--- whether the read of a number was polled and waits
-abbrev pub polled_entry : Entries → ℕ → Bool
-polled_entry entries id = if_polls (entry_at entries id)
-
 -- the reads in flight in the span of a number, in order
 abbrev pub group : ℕ → Entries → List ReadRequest
 group n [] = []
@@ -90,13 +78,6 @@ known entries x = record {
 -- the reads that entries stand for
 abbrev pub seen : Entries → Reads
 seen entries = map (λ (e : ℕ × Read). known entries e.1) entries
-
--- whether a change polls a read
-abbrev pub is_poll : Change → Bool
-is_poll Poll = true
-is_poll Cancel = false
-is_poll (Take _ _) = false
-is_poll Resolve = false
 
 -- the stage of a read after a change, or that it is gone
 abbrev pub after : Change → Stage → Option Stage

@@ -20,7 +20,10 @@ abbrev pub io_alignment : IoRequest → ℕ
 io_alignment (Single r) = r.alignment
 io_alignment (Coalesced s) = s.alignment
 
--- the range that a span is asked as: where it begins, how many bytes it has, and the alignment that they
--- are to claim
+-- the range that is asked
+abbrev pub io_range : IoRequest → ReadAtRequest
+io_range io = record { offset = io_offset io; length = io_len io; alignment = io_alignment io }
+
+-- the range that a span is asked as
 abbrev pub request_of : Span → ReadAtRequest
-request_of s = record { offset = s.start; length = s.end - s.start; alignment = s.alignment }
+request_of s = io_range (Coalesced s)

@@ -11,7 +11,14 @@ use Rattle.vx_sched.specs.declared.event.Event.TheVariants.{Request, Polled, Dro
 
 -- a scheduler without reads
 abbrev pub idle : Option ℕ → Option ℕ → ℕ → ℕ → Scheduler
-idle distance limit alignment concurrency = record { distance = distance; limit = limit; alignment = alignment; concurrency = concurrency; reads = []; next = 0 }
+idle distance limit alignment concurrency = record {
+  distance = distance;
+  limit = limit;
+  alignment = alignment;
+  concurrency = concurrency;
+  reads = [];
+  next = 0;
+}
 
 -- whether an event asks for a read of a number
 abbrev pub requests : ℕ → Event → Bool

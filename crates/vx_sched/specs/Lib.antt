@@ -11,6 +11,7 @@ pub mod Metrics
 pub mod Outcomes
 pub mod Picks
 pub mod Places
+pub mod Polls
 pub mod Reads
 pub mod Scheduling
 pub mod Span

@@ -3,7 +3,7 @@ use Rattle.std.specs.Prelude.{◌≡◌, ℕ, ◌++◌, ◌==◌, true, List, []
 use Rattle.std.specs.Global.{Global}
 use Rattle.std.specs.Option.{option_map}
 use Rattle.vx_base.specs.Buffer.{Buffer, bytes_at}
-use Rattle.vx_base.specs.Asking.{Log, faulted, answer_to, without_answer, GrewOrStayed, IsInside}
+use Rattle.vx_base.specs.Asking.{Log, faulted, GrewOrStayed, IsInside}
 use Rattle.vx_base.specs.Counts.{Rises}
 use Rattle.vx_base.specs.Readers.{ReaderState}
 use Rattle.vx_base.specs.declared.answer.ReadAtRequest.{ReadAtRequest}
@@ -23,18 +23,15 @@ range_fault kind range = record { kind = kind; place = place.Range range.offset 
 -- what a result makes of a range
 abbrev pub outcome_of_result : ReadAtRequest → Result Buffer Failed → Outcome
 outcome_of_result range (Ok buffer) =
-    if length buffer.bytes == range.length then out.Bytes (record buffer { alignment = range.alignment }) else out.Fault (range_fault ShortRead range)
+    if length buffer.bytes == range.length
+    then out.Bytes (record buffer { alignment = range.alignment })
+    else out.Fault (range_fault ShortRead range)
 outcome_of_result range (Err _) = out.Fault (range_fault ReadFault range)
 
 -- what the answer to a range makes of it
 abbrev pub outcome_of : ReadAtRequest → Option (RangeAnswer Buffer) → Outcome
 outcome_of range None = out.Fault (range_fault MissingRange range)
 outcome_of range (Some a) = outcome_of_result range a.result
-
--- what the answers make of ranges, each by the first answer left that names it
-abbrev pub outcomes_of : List ReadAtRequest → List (RangeAnswer Buffer) → List Outcome
-outcomes_of [] answers = []
-outcomes_of (r ∷ rest) answers = outcome_of r (answer_to r answers) ∷ outcomes_of rest (without_answer r answers)
 
 -- the mark of a range with this outcome
 abbrev pub mark_of_outcome : Outcome → Option FaultKind
@@ -83,7 +80,8 @@ pub record AskCause {E : Type 0} (ranges : List ReadAtRequest) (before now : Rea
   pub memory : OnErr outcomes (GrewOrStayed ranges before.log now.log)
   pub rises : IfOk outcomes (λ all. Rises (faulted (log_of ranges all.items)) before.faults now.faults)
   pub sound : (b : List ℕ) → before.never_fails ≡ true → before.bytes ≡ Some b → All (IsInside b) ranges → now.faults ≡ before.faults
-  pub complete : IfOk outcomes (λ all. (b : List ℕ) → before.never_fails ≡ true → before.bytes ≡ Some b → All (IsInside b) ranges → faulted (log_of ranges all.items) ≡ 0)
+  pub complete : IfOk outcomes (λ all. (b : List ℕ) → before.never_fails ≡ true → before.bytes ≡ Some b
+      → All (IsInside b) ranges → faulted (log_of ranges all.items) ≡ 0)
 
 -- the fault of the call for the size
 abbrev pub size_fault : Fault

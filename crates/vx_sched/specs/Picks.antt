@@ -41,7 +41,8 @@ pub record PickedMore (old new : Picks) : Type 0 where
 -- before, was picked, or would make the span too long
 abbrev pub IsLookedAt : Rules → Reads → BTreeSet ℕ → ℕ → ℕ → ℕ → Picks → ℕ → Type 0
 IsLookedAt rules reads before left from right picks id = (r : ReadRequest) → free_at reads before id ≡ Some r
-    → left ≤ end_of r → from ≤ r.offset → r.offset ≤ right → is_listed (values picks.reads) id ≡ false → IsTooLong rules.limit rules.alignment picks.low picks.high r
+    → left ≤ end_of r → from ≤ r.offset → r.offset ≤ right → is_listed (values picks.reads) id ≡ false
+    → IsTooLong rules.limit rules.alignment picks.low picks.high r
 
 -- each such read was
 abbrev pub AreLookedAt : Rules → Reads → BTreeSet ℕ → ℕ → ℕ → ℕ → Picks → Type 0
@@ -49,5 +50,6 @@ AreLookedAt rules reads before left from right picks = (id : ℕ) → IsLookedAt
 
 -- each free read that is near the picks was picked, or would make the span too long
 abbrev pub IsClosed : Rules → Reads → BTreeSet ℕ → Picks → Type 0
-IsClosed rules reads before picks = (r : ReadRequest) → free_at reads before r.id ≡ Some r → is_listed (values picks.reads) r.id ≡ false
+IsClosed rules reads before picks = (r : ReadRequest) → free_at reads before r.id ≡ Some r
+    → is_listed (values picks.reads) r.id ≡ false
     → IsNear rules.distance picks.low picks.high r → IsTooLong rules.limit rules.alignment picks.low picks.high r

@@ -9,6 +9,7 @@ use Rattle.std.specs.Map.{keys_of}
 use Rattle.vx_sched.specs.Reads.{Reads, waiting_at, has_first}
 use Rattle.vx_sched.specs.Merging.{first_number}
 use Rattle.vx_sched.specs.Entries.{Entries, entry_at, waits_in, group}
+use Rattle.vx_sched.specs.Polls.{Flags, AreMarked}
 use Rattle.vx_sched.specs.declared.read.Stage.TheVariants.{Registered, Polled, InFlight, Resolved}
 use Rattle.vx_sched.specs.declared.request.ReadRequest.{ReadRequest}
 use Rattle.vx_sched.specs.declared.read.Read.{Read}
@@ -53,10 +54,11 @@ pub record AreGrouped (entries : Entries) : Type 0 where
   pub named : (n : ℕ) → has_first (group n entries) ≡ true → first_number (group n entries) ≡ n
   pub sizes : (id n size : ℕ) → size_in n (entry_at entries id) ≡ Some size → length (group n entries) ≡ size
 
--- both
-pub record IsTable (entries : Entries) (places : BTreeSet (ℕ × ℕ)) (longest : ℕ) : Type 0 where
+-- entries with their places, spans and flags
+pub record IsTable (entries : Entries) (places : BTreeSet (ℕ × ℕ)) (longest : ℕ) (flags : Flags) : Type 0 where
   pub kept : IsKept entries places longest
   pub grouped : AreGrouped entries
+  pub marked : AreMarked entries flags
 
 -- each waiting read ends in range
 abbrev pub AllFit : Reads → Type 0

@@ -1,8 +1,8 @@
 -- A scheduler as its history makes it: each event is one step.
-use Rattle.std.specs.Prelude.{◌≡◌, ℕ, ◌+◌, ◌^◌, ◌<◌, ◌≤◌, ◌==◌, Bool, true, false, List, [], ◌∷◌, ◌++◌, map, length, Option, None}
+use Rattle.std.specs.Prelude.{◌≡◌, ℕ, ◌+◌, ◌^◌, ◌<◌, ◌≤◌, ◌==◌, Bool, true, false, List, [], ◌∷◌, ◌++◌, length, Option, None}
 use Rattle.std.specs.List.{AllByRecursion}
 use Rattle.vx_sched.specs.Span.{Span, end_of}
-use Rattle.vx_sched.specs.Reads.{Reads, read_at, waiting_at, polled_at, leads_at, flights, ranges_in_flight, Rise, change, register_read, poll_read, drop_read, take_read, resolve_read}
+use Rattle.vx_sched.specs.Reads.{Reads, read_at, waiting_at, polled_at, leads_at, ranges_in_flight, Rise, change, register_read, poll_read, drop_read, take_read, resolve_read}
 use Rattle.vx_sched.specs.Merging.{Merges, span_of, first_number, is_listed}
 use Rattle.vx_sched.specs.declared.request.ReadRequest.{ReadRequest}
 use Rattle.vx_sched.specs.declared.event.ReadEvent.{ReadEvent}
@@ -41,10 +41,6 @@ pub record MergesFrom (s : Scheduler) (waiting : ℕ → Option ReadRequest) (du
 -- a span merges from what waits
 abbrev pub MergesNow : Scheduler → Span → Type 0
 MergesNow s span = MergesFrom s (waiting_at s.reads) (polled_at s.reads) span
-
--- no polled read waits whose number is below this
-abbrev pub NonePolledBelow : Reads → ℕ → Type 0
-NonePolledBelow reads from = (q : ℕ) → q < from → polled_at reads q ≡ false
 
 -- no polled read waits
 abbrev pub NonePolled : Reads → Type 0
@@ -93,10 +89,6 @@ settled s spans = all_resolved (all_taken s spans) spans
 abbrev pub MergesInTurn : Scheduler → List Span → Type 0
 MergesInTurn s [] = Unit {0}
 MergesInTurn s (span ∷ rest) = MergesNow s span × MergesInTurn (taken s span) rest
-
--- the spans in flight
-abbrev pub spans_in_flight : Scheduler → List Span
-spans_in_flight s = map (span_at s) (flights s.reads)
 
 -- a span is in flight: its first read leads its reads, and its range is theirs
 pub record IsInFlight (s : Scheduler) (span : Span) : Type 0 where

@@ -1,6 +1,6 @@
 //! What is asked of a reader in one range.
 ghost use Rattle.std.specs.Prelude.{◌≡◌, ℕ, ◌==◌, ◌∷◌, [], None};
-ghost use Rattle.vx_sched.specs.Io.{io_offset, io_len, io_alignment, request_of};
+ghost use Rattle.vx_sched.specs.Io.{io_offset, io_len, io_alignment, io_range, request_of};
 ghost use Rattle.vx_sched.specs.Merging.{span_of};
 ghost use Rattle.vx_sched.specs.declared.request.ReadRequest.{ReadRequest};
 
@@ -54,14 +54,25 @@ impl IoRequest {
             IoRequest::Coalesced(span) => span.alignment(),
         }
     }
+
+    /// The range that is asked of a reader.
+    pub fn range(&self) -> ReadAtRequest
+        ensures { result ≡ io_range self.now }
+    {
+        ReadAtRequest {
+            offset: self.offset(),
+            length: self.len(),
+            alignment: self.alignment(),
+        }
+    }
 }
 
-/// The range that a span is asked as. A single read without a distance is asked with its own offset,
-/// length and alignment.
+/// The range that a taken span is asked as: the whole span with the greatest alignment, and without a
+/// distance its single read with its own offset, length and alignment.
 pub fn request_of(span: &CoalescedRequest) -> ReadAtRequest
     ensures value { result ≡ request_of span.now }
     ensures single { (alignment : ℕ) (r : ReadRequest) → span.now ≡ span_of None alignment (r ∷ []) →
-        result ≡ record { offset = r.offset; length = r.length; alignment = r.alignment } }
+        result ≡ io_range (IoRequest.Single r) }
 {
     let range = span.range();
     ReadAtRequest {

@@ -14,6 +14,7 @@ mod law;
 #[cfg(test)]
 mod merging_tests;
 mod metrics;
+mod polls;
 mod read;
 mod request;
 mod span;

@@ -6,7 +6,7 @@ ghost use Rattle.vx_sched.specs.Merging.{raised, Merges, is_listed, same_span};
 ghost use Rattle.vx_sched.specs.Picks.{free_at};
 ghost use Rattle.vx_sched.specs.Counting.{counts_of, count_in};
 ghost use Rattle.vx_sched.specs.Law.{IsSound};
-ghost use Rattle.vx_sched.specs.Scheduling.{SameSettings, span_at, IsInFlight, AllInFlight, AreApart, MayHappen, stepped, requested, polled, dropped, takes_no_memory, MayTake, MergesNow, MergesInTurn, NonePolled, NonePolledBelow, taken, all_taken, resolved, all_resolved, settled};
+ghost use Rattle.vx_sched.specs.Scheduling.{SameSettings, span_at, IsInFlight, AllInFlight, AreApart, MayHappen, stepped, requested, polled, dropped, takes_no_memory, MayTake, MergesNow, MergesInTurn, NonePolled, taken, all_taken, resolved, all_resolved, settled};
 ghost use Rattle.vx_sched.specs.Chain.{waiting_after, polled_after, IsLeft};
 ghost use Rattle.vx_sched.specs.declared.read.ReadState.TheVariants.{Polled};
 
@@ -30,34 +30,33 @@ pub struct State {
     most: usize,
     table: Table,
     last: Option<u64>,
-    /// No polled read has a number below this. The next read is looked for from here on, so that no
-    /// memory is needed to remember which reads were polled.
-    from: u64,
 }
 
 impl Model for State {
     ghost use Rattle.std.specs.Prelude.{ℕ, ◌+◌, ◌≤◌};
     ghost use Rattle.std.specs.Option.{option_map_or};
-    ghost use Rattle.vx_sched.specs.Scheduling.{Scheduler, NonePolledBelow};
+    ghost use Rattle.vx_sched.specs.Scheduling.{Scheduler};
     ghost use Rattle.vx_sched.specs.Law.{IsSound};
 
     ghost Value = { Scheduler };
 
-    ghost view = { λ s. record { distance = s.gap; limit = s.longest; alignment = s.aligned; concurrency = s.most; reads = s.table; next = option_map_or (λ n. n + 1) s.last 0 } };
+    ghost view = { λ s. record {
+      distance = s.gap;
+      limit = s.longest;
+      alignment = s.aligned;
+      concurrency = s.most;
+      reads = s.table;
+      next = option_map_or (λ n. n + 1) s.last 0;
+    } };
 
-    ghost invariant = { λ s. (1 ≤ s.most) × NonePolledBelow s.table s.from
-        × IsSound (record { distance = s.gap; limit = s.longest; alignment = s.aligned; concurrency = s.most; reads = s.table; next = option_map_or (λ n. n + 1) s.last 0 }) };
-}
-
-/// The least number of some reads.
-fn least_of(reads: &[ReadRequest]) -> u64
-    ensures { (id : ℕ) → is_listed reads.now id ≡ true → result ≤ id }
-{
-    let mut least = u64::MAX;
-    for read in reads {
-        least = least.min(read.id);
-    }
-    if reads.is_empty() { 0 } else { least }
+    ghost invariant = { λ s. (1 ≤ s.most) × IsSound (record {
+      distance = s.gap;
+      limit = s.longest;
+      alignment = s.aligned;
+      concurrency = s.most;
+      reads = s.table;
+      next = option_map_or (λ n. n + 1) s.last 0;
+    }) };
 }
 
 impl State {
@@ -88,7 +87,6 @@ impl State {
             most: concurrency,
             table: Table::new(alloc),
             last: None,
-            from: 0,
         }
     }
 
@@ -139,7 +137,6 @@ impl State {
         ensures { self.new ≡ polled self.old id }
     {
         self.table.poll(id);
-        self.from = self.from.min(id);
     }
 
     /// Drops the read of a number.
@@ -186,7 +183,7 @@ impl State {
     {
         let mut spans = Vec::new(alloc);
         let mut before = BTreeSet::new(alloc);
-        let mut from = self.from;
+        let mut from = 0;
         for _ in 0..most {
             let Some(first) = self.table.next_polled(from, &before) else {
                 return Ok(spans);
@@ -209,10 +206,7 @@ impl State {
         ensures may { ranges_in_flight self.old.reads < self.old.concurrency → MayTake self.old (span.now ∷ []) }
         ensures fewer { count_in Polled self.new.reads < count_in Polled self.old.reads }
     {
-        let reads = span.requests();
-        let least = least_of(reads);
-        self.table.take(reads);
-        self.from = self.from.max(least);
+        self.table.take(span.requests());
     }
 
     /// Puts the reads of a batch in flight.
@@ -288,10 +282,7 @@ impl State {
     {
         let mut batch = self.batch(alloc, 1)?;
         match batch.pop() {
-            None => {
-                self.from = u64::MAX;
-                Ok(None)
-            }
+            None => Ok(None),
             Some(span) => {
                 self.take_one(&span);
                 Ok(Some(span))

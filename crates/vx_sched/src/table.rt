@@ -8,25 +8,28 @@ ghost use Rattle.vx_sched.specs.declared.request.ReadRequest.{ReadRequest};
 ghost use Rattle.vx_sched.specs.declared.read.Read.{Read};
 ghost use Rattle.std.specs.Ordering.{nat_cmp};
 ghost use Rattle.vx_sched.specs.Span.{end_of};
-ghost use Rattle.vx_sched.specs.Entries.{Entries, entry_at, if_waits, state_of, changed, all_changed, with_stage, waits_in, polled_in, polled_entry};
+ghost use Rattle.vx_sched.specs.Entries.{Entries, entry_at, if_waits, state_of, changed, all_changed, with_stage, waits_in, polled_in};
 ghost use Rattle.vx_sched.specs.Reads.{read_at, waiting_at, polled_at, state_at, leads_at, change, register_read, poll_read, drop_read, take_read, resolve_read};
 ghost use Rattle.vx_sched.specs.Merging.{is_listed, is_in_order, first_number};
 ghost use Rattle.vx_sched.specs.Places.{AllFit, IsKept, place_cmp, stays_waiting};
 ghost use Rattle.vx_sched.specs.Counting.{counts_of};
+ghost use Rattle.vx_sched.specs.Polls.{flag_at, is_raised, AreMarked};
 
 use crate::ReadRequest;
 use crate::counts::{Counts, Kind, count_kind};
 use crate::flying::{all_fly, is_ordered};
+use crate::polls::Polls;
 use crate::read::{Change, Read, ReadState, Stage, stage_after};
 use std::alloc::{AllocError, Global};
 use std::collections::{BTreeMap, BTreeSet};
 use std::marker::Model;
 
-/// The reads by number, and the places of those that wait.
+/// The reads by number, the places of those that wait, and which of them are polled.
 #[derive(Drop)]
 pub struct Table {
     reads: BTreeMap<u64, Read>,
     places: BTreeSet<(u64, u64)>,
+    polls: Polls,
     /// No read is longer than this.
     longest: u64,
 }
@@ -40,7 +43,7 @@ impl Model for Table {
 
     ghost view = { λ t. seen t.reads.entries };
 
-    ghost invariant = { λ t. IsTable t.reads.entries t.places t.longest };
+    ghost invariant = { λ t. IsTable t.reads.entries t.places t.longest t.polls };
 }
 
 /// Adds a read and its place, or neither.
@@ -127,33 +130,45 @@ fn numbers_between(
     Ok(ids)
 }
 
-/// Whether a read was polled and waits, and is not among some.
-fn is_next(id: u64, read: &Read, taken: &BTreeSet<u64>) -> bool
-    ensures { result ≡ (polled_in read.now.stage && not (contains nat_cmp taken.now id)) }
+/// The raised number from one on that is least and not among some.
+fn next_of(polls: &Polls, from: u64, taken: &BTreeSet<u64>) -> Option<u64>
+    ensures raised { IfSome result (λ n. is_raised polls.now n ≡ true) }
+    ensures fresh { IfSome result (λ n. contains nat_cmp taken.now n ≡ false) }
+    ensures least { IfSome result (λ n. (q : ℕ) → from ≤ q → q < n → is_raised polls.now q ≡ true →
+        contains nat_cmp taken.now q ≡ true) }
+    ensures none { IfNone result ((q : ℕ) → from ≤ q → q < 2 ^ 64 → is_raised polls.now q ≡ true →
+        contains nat_cmp taken.now q ≡ true) }
 {
-    read.stage.is_polled() && !taken.contains(&id)
+    let mut at = from;
+    loop {
+        let Some(number) = polls.next(at) else {
+            return None;
+        };
+        if !taken.contains(&number) {
+            return Some(number);
+        }
+        if number == u64::MAX {
+            return None;
+        }
+        at = number + 1;
+    }
 }
 
-/// The polled read of least number, from a number on, that is not among some.
-fn first_polled(
-    reads: &BTreeMap<u64, Read>,
-    from: u64,
-    taken: &BTreeSet<u64>,
-) -> Option<(u64, ReadRequest)>
-    ensures found { IfSome result (λ p. entry_at reads.now.entries p.0
-        ≡ Some (record { request = p.1; stage = Stage.Polled })) }
-    ensures fresh { IfSome result (λ p. contains nat_cmp taken.now p.0 ≡ false) }
-    ensures least { IfSome result (λ p. (q : ℕ) → from ≤ q → q < p.0 → polled_entry reads.now.entries q ≡ true →
-        contains nat_cmp taken.now q ≡ true) }
-    ensures none { IfNone result ((q : ℕ) → from ≤ q → polled_entry reads.now.entries q ≡ true →
-        contains nat_cmp taken.now q ≡ true) }
+/// Puts the flag of a read that changed.
+fn mark(polls: &mut Polls, id: u64, before: &Stage, after: Option<Stage>)
+    requires { flag_at polls.old id ≡ Some (polled_in before.now) }
+    ensures { (n : ℕ) → flag_at polls.new n
+        ≡ cond (is_at (nat_cmp id) n) (option_map polled_in after) (flag_at polls.old n) }
 {
-    for (id, read) in reads.range(from..) {
-        if is_next(*id, read, taken) {
-            return Some((*id, read.request));
-        }
+    let Some(stage) = after else {
+        polls.put(id, None);
+        return;
+    };
+    let polled = stage.is_polled();
+    if polled == before.is_polled() {
+        return;
     }
-    None
+    polls.put(id, Some(polled));
 }
 
 /// The entry of a number.
@@ -193,16 +208,20 @@ fn if_state(found: Option<Read>) -> Option<ReadState>
 fn change_entry(
     reads: &mut BTreeMap<u64, Read>,
     places: &mut BTreeSet<(u64, u64)>,
+    polls: &mut Polls,
     id: u64,
     change: Change,
 )
+    requires { AreMarked reads.old.entries polls.old }
     ensures changed { reads.new.entries ≡ changed change reads.old.entries id }
     ensures kept { (longest : ℕ) → IsKept reads.old.entries places.old longest → IsKept reads.new.entries places.new longest }
+    ensures marked { AreMarked reads.new.entries polls.new }
 {
     if let Some(read) = entry(reads, id) {
         let stage = stage_after(change, read.stage);
         put(reads, id, read.request, stage);
         leave(places, &read, stage);
+        mark(polls, id, &read.stage, stage);
     }
 }
 
@@ -210,14 +229,17 @@ fn change_entry(
 fn change_entries(
     reads: &mut BTreeMap<u64, Read>,
     places: &mut BTreeSet<(u64, u64)>,
+    polls: &mut Polls,
     change: Change,
     span: &[ReadRequest],
 )
+    requires { AreMarked reads.old.entries polls.old }
     ensures changed { reads.new.entries ≡ all_changed change reads.old.entries span.now }
     ensures kept { (longest : ℕ) → IsKept reads.old.entries places.old longest → IsKept reads.new.entries places.new longest }
+    ensures marked { AreMarked reads.new.entries polls.new }
 {
     for read in span {
-        change_entry(reads, places, read.id, change);
+        change_entry(reads, places, polls, read.id, change);
     }
 }
 
@@ -238,6 +260,7 @@ impl Table {
         Table {
             reads: BTreeMap::new(alloc),
             places: BTreeSet::new(alloc),
+            polls: Polls::new(alloc),
             longest: 0,
         }
     }
@@ -270,8 +293,8 @@ impl Table {
         ensures none { IfNone result ((q : ℕ) → from ≤ q → polled_at self.now q ≡ true →
             contains nat_cmp taken.now q ≡ true) }
     {
-        match first_polled(&self.reads, from, taken) {
-            Some((_, request)) => Some(request),
+        match next_of(&self.polls, from, taken) {
+            Some(id) => self.waiting(id),
             None => None,
         }
     }
@@ -317,24 +340,45 @@ impl Table {
         ensures registered { OnOk result (self.new ≡ self.old ++ register_read request ∷ []) }
         ensures kept { OnErr result (self.new ≡ self.old) }
     {
+        let id = request.id;
         let longest = self.longest.max(request.length as u64);
-        add(&mut self.reads, &mut self.places, request)?;
-        self.longest = longest;
-        Ok(())
+        self.polls.open(id)?;
+        match add(&mut self.reads, &mut self.places, request) {
+            Ok(()) => {
+                self.longest = longest;
+                Ok(())
+            }
+            Err(error) => {
+                self.polls.put(id, None);
+                Err(error)
+            }
+        }
     }
 
     /// Polls the read of a number, if it is registered.
     pub fn poll(&mut self, id: u64)
         ensures { self.new ≡ change (λ n. n == id) poll_read self.old }
     {
-        change_entry(&mut self.reads, &mut self.places, id, Change::Poll);
+        change_entry(
+            &mut self.reads,
+            &mut self.places,
+            &mut self.polls,
+            id,
+            Change::Poll,
+        );
     }
 
     /// Takes the read of a number out, or marks it where it is in flight.
     pub fn cancel(&mut self, id: u64)
         ensures { self.new ≡ change (λ n. n == id) drop_read self.old }
     {
-        change_entry(&mut self.reads, &mut self.places, id, Change::Cancel);
+        change_entry(
+            &mut self.reads,
+            &mut self.places,
+            &mut self.polls,
+            id,
+            Change::Cancel,
+        );
     }
 
     /// Puts waiting reads in flight in one span.
@@ -348,7 +392,13 @@ impl Table {
             span: number_of(span),
             size: span.len(),
         };
-        change_entries(&mut self.reads, &mut self.places, change, span);
+        change_entries(
+            &mut self.reads,
+            &mut self.places,
+            &mut self.polls,
+            change,
+            span,
+        );
     }
 
     /// Resolves the reads of a span in flight; those that were dropped are gone.
@@ -357,7 +407,13 @@ impl Table {
         requires flies { leads_at self.old (first_number span.now) ≡ span.now }
         ensures { self.new ≡ change (is_listed span.now) resolve_read self.old }
     {
-        change_entries(&mut self.reads, &mut self.places, Change::Resolve, span);
+        change_entries(
+            &mut self.reads,
+            &mut self.places,
+            &mut self.polls,
+            Change::Resolve,
+            span,
+        );
     }
 
     /// Whether reads are those of a span in flight.

@@ -8,7 +8,7 @@ use crate::{
 use std::alloc::Global;
 use std::process::Abort;
 use std::test::Fail;
-use vx_base::{Alignment, ByteBuffer, FaultKind, MemReader, Mischief, MischiefKind, ReadAtRequest};
+use vx_base::{Alignment, ByteBuffer, FaultKind, MemReader, Mischief, MischiefKind};
 
 // The alignment of an exponent.
 pub fn aligned(exponent: u8) -> Alignment {
@@ -199,33 +199,6 @@ fn a_batch_is_settled(rt: HostRuntime) -> Result<(), Fail> {
     Ok(())
 }
 
-#[test]
-fn parts_are_cut_from_a_span(rt: HostRuntime) -> Result<(), Fail> {
-    let reads = vec![in rt.alloc(); read(0, 6, 5), read(1, 12, 1)]?;
-    let span = match CoalescedRequest::try_new(4..13, aligned(2), reads) {
-        Ok(span) => span,
-        Err(_) => return Err(Fail::from("refused")),
-    };
-    assert_eq!(rt; span.requests().len(), 2);
-    let bytes = Vec::from_slice(rt.alloc(), b"456789abc")?;
-    let buffer = ByteBuffer::from_vec(rt.alloc(), bytes, aligned(2))?;
-    let range = span.range();
-    assert_eq!(rt; buffer.len() as u64, range.end - range.start);
-    assert_eq!(rt;
-        span.slice_of(rt.alloc(), &buffer, 0)?.as_slice(),
-        b"6789a".as_slice()
-    );
-    assert_eq!(rt;
-        span.slice_of(rt.alloc(), &buffer, 1)?.as_slice(),
-        b"c".as_slice()
-    );
-    let whole = IoRequest::Coalesced(span);
-    assert_eq!(rt; whole.offset(), 4);
-    assert_eq!(rt; whole.len(), 9);
-    assert_eq!(rt; whole.alignment().exponent(), 2);
-    Ok(())
-}
-
 // Registers two reads with alignments of their own, polls the first, and gives the spans of a batch.
 fn spans_of_aligned(
     rt: &impl Abort,
@@ -255,6 +228,8 @@ fn a_span_is_aligned_to_the_greatest_alignment(rt: HostRuntime) -> Result<(), Fa
     assert!(rt; first.as_slice() == b"6789a".as_slice());
     let second = cut_of(&rt, rt.alloc(), span, 1)?;
     assert!(rt; second.as_slice() == b"c".as_slice());
+    let asked = request_of(span);
+    assert!(rt; asked.offset == 4 && asked.length == 9 && asked.alignment.exponent() == 2);
     Ok(())
 }
 
@@ -262,6 +237,8 @@ fn a_span_is_aligned_to_the_greatest_alignment(rt: HostRuntime) -> Result<(), Fa
 fn a_range_that_is_no_span_is_refused_in_order(rt: HostRuntime) -> Result<(), Fail> {
     let reversed = CoalescedRequest::try_new(5..4, aligned(0), Vec::new(rt.alloc()));
     assert!(rt; matches!(reversed, Err(RangeError::RangeReversed)));
+    let within = vec![in rt.alloc(); read(0, 4, 3)]?;
+    assert!(rt; CoalescedRequest::try_new(4..8, aligned(0), within).is_ok());
     let before = vec![in rt.alloc(); read(0, 3, 9)]?;
     assert!(rt;
         matches!(
@@ -295,18 +272,8 @@ fn answers_are_matched_by_range(rt: HostRuntime) -> Result<(), Fail> {
     let held = ByteBuffer::from_vec(rt.alloc(), bytes, Alignment::none())?;
     let mut reader = MemReader::new(rt.alloc(), held, None, None, 2, wrongs)?;
     assert!(rt; ask_size(&mut reader).is_ok());
-    let asked = [
-        ReadAtRequest {
-            offset: 0,
-            length: 4,
-            alignment: Alignment::none(),
-        },
-        ReadAtRequest {
-            offset: 4,
-            length: 4,
-            alignment: Alignment::none(),
-        },
-    ];
+    let single = IoRequest::Single(read(0, 0, 4));
+    let asked = [single.range(), IoRequest::Single(read(1, 4, 4)).range()];
     let outcomes = ask(rt.alloc(), &mut reader, &asked)?;
     assert_eq!(rt; outcomes.len(), 2);
     assert!(rt;

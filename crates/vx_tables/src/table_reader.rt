@@ -178,7 +178,8 @@ impl<'a> TableReader<'a> {
         slot: usize,
         visits: &mut Visits,
     ) -> Result<Option<TableReader<'_>>, BadTable>
-        ensures value { taken (option_map (λ r. r.table)) result visits.new ≡ charge (optional_cost one) (reached_optional self.now.levels (table_field self.now.bytes self.now.table slot)) visits.old }
+        ensures value { taken (option_map (λ r. r.table)) result visits.new
+            ≡ charge (optional_cost one) (reached_optional self.now.levels (table_field self.now.bytes self.now.table slot)) visits.old }
         ensures below { IfOk result (λ o. IfSome o (IsBelow self.now)) }
     {
         match self.target_of(slot)? {
@@ -202,7 +203,8 @@ impl<'a> TableReader<'a> {
         elements: Elements,
         visits: &mut Visits,
     ) -> Result<Option<VectorReader<'_>>, BadTable>
-        ensures value { taken (option_map (λ r. r.vector)) result visits.new ≡ charge (optional_cost (vector_cost elements)) (vector_field self.now.bytes self.now.table slot elements) visits.old }
+        ensures value { taken (option_map (λ r. r.vector)) result visits.new
+            ≡ charge (optional_cost (vector_cost elements)) (vector_field self.now.bytes self.now.table slot elements) visits.old }
         ensures within { IfOk result (λ o. IfSome o (IsVectorOf self.now elements)) }
     {
         match self.target_of(slot)? {

@@ -127,7 +127,8 @@ impl<'a> VectorReader<'a> {
     pub fn table_at(&self, at: usize, visits: &mut Visits) -> Result<TableReader<'_>, BadTable>
         requires place { at < self.now.vector.count }
         requires offsets { self.now.elements ≡ Elements.Offsets }
-        ensures value { taken (λ r. r.table) result visits.new ≡ charge one (reached self.now.levels (table_of_vector self.now.bytes self.now.vector at)) visits.old }
+        ensures value { taken (λ r. r.table) result visits.new
+            ≡ charge one (reached self.now.levels (table_of_vector self.now.bytes self.now.vector at)) visits.old }
         ensures element { IfOk result (IsElementOf self.now) }
     {
         if self.levels == 0 {

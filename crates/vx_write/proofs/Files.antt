@@ -1,6 +1,6 @@
 -- A file of one column: its length, its footer and its rows.
 use Rattle.std.proofs.Common.{◌≡◌, ℕ, zero, suc, ◌+◌, ◌*◌, ◌<◌, ◌≤◌, ◌^◌, Bool, true, List, [], ◌∷◌, ◌++◌, length, take, refl, sym, ap, subst, ◌∙◌, arith, append_assoc, length-append, le-leb, codes, IsAscii}
-use Rattle.std.specs.Prelude.{ℤ, Some, Ok, Err, slice_get, FitsSigned, nat_le, nat_lt, ◌&&◌, false}
+use Rattle.std.specs.Prelude.{ℤ, Some, None, Ok, Err, slice_get, FitsSigned, nat_le, nat_lt, ◌&&◌, false}
 use Rattle.std.specs.Int.{w16, w32, to_le_bytes, from_le_bytes, cast_unsigned, cast_signed}
 use Rattle.std.specs.List.{flat_map}
 use Rattle.std.specs.Str.{is_utf8}
@@ -8,12 +8,16 @@ use Rattle.std.proofs.lemmas.Str.{IsUtf8-from_ascii, is_utf8-from_IsUtf8}
 use Rattle.std.proofs.lemmas.Str.Ascii.{IsAscii-nil}
 use Rattle.std.proofs.lemmas.Bool.Decides.{nat_tests}
 use Rattle.vx_base.specs.Buffer.{bytes_at}
-use Rattle.vx_footer.specs.declared.footer.Footer.{Footer}
+use Rattle.vx_data.specs.declared.ptype.PType.TheVariants.{I32}
+use Rattle.vx_data.specs.Dtype.{int}
+use Rattle.vx_data.specs.DtypeWritten.{dtype_written}
+use Rattle.vx_data.specs.LayoutWritten.{layout_written}
+use Rattle.vx_footer.specs.Footers.{FooterContent}
 use Rattle.vx_footer.specs.declared.serialize_error.SerializeError.{SerializeError}
-use Rattle.vx_footer.specs.Serialized.{serialize_checks, segment_of, parts, serialized, ptype_bytes, rows_bytes, ids_bytes, places_bytes, dtype_bytes, layout_bytes, footer_bytes, postscript_bytes, end_marker}
+use Rattle.vx_footer.specs.Serialized.{IsFlat, flat_id, serialize_checks, segment_of, parts_of, serialized, ids_bytes, places_bytes, dtype_bytes, layout_bytes, footer_bytes, postscript_bytes, end_marker}
 use Rattle.vx_footer.specs.Writable.{IsWritable}
 use Rattle.vx_tables.specs.Block.{segment}
-use Rattle.vx_footer.specs.Opening.{least_read, vx_grammar}
+use Rattle.vx_footer.specs.Opening.{vx_grammar}
 use Rattle.std.proofs.lemmas.Nat.{from_le_bytes-to_le_bytes_4}
 use Rattle.std.proofs.lemmas.Int.{to_z-of_z}
 use Rattle.std.proofs.Math.Facts.{Fits-of_z, Fits-lt-pow}
@@ -23,11 +27,9 @@ use Rattle.vx_write.specs.Column.{segment_spec, AreI32, value_bytes, column_byte
 -- ---- lengths
 
 dtype-length : (count : ℕ) → length (dtype_bytes (footer_of count)) ≡ 21
-unfolding ptype_bytes
 dtype-length count = refl
 
 layout-length : (count : ℕ) → length (layout_bytes (footer_of count)) ≡ 44
-unfolding rows_bytes
 layout-length count = refl
 
 footer-length : (count : ℕ) → length (footer_bytes (footer_of count)) ≡ 237
@@ -44,19 +46,38 @@ below n m h = grind (arith, nat_tests)
 segment-short : (bytes : List ℕ) → length bytes < 2 ^ 32 → segment_of bytes ≡ Ok bytes
 segment-short bytes h = rw (below (length bytes) (2 ^ 32) h) refl
 
--- short tables that end before the last offset pass
-pass : (at : ℕ) (f : Footer) → length (dtype_bytes f) < 2 ^ 32 → length (layout_bytes f) < 2 ^ 32 → length (footer_bytes f) < 2 ^ 32
-    → at + length (dtype_bytes f) + length (layout_bytes f) + length (footer_bytes f) < 2 ^ 64 → serialize_checks at f ≡ Ok (parts at f)
+pub flat_footer : (f : FooterContent) (count : ℕ) → f ≡ footer_of count → IsFlat f
+flat_footer f count is = record {
+  rows_dtype = int I32 false;
+  rows = count;
+  segment = 0;
+  layout = ap (λ (g : FooterContent). g.layout) is;
+  version = ap (λ (g : FooterContent). g.version) is;
+  statistics = ap (λ (g : FooterContent). g.statistics) is;
+  metadata = ap (λ (g : FooterContent). g.metadata) is;
+}
+
+dtype-passes : (count : ℕ) → dtype_written (int I32 false) ≡ Ok (dtype_bytes (footer_of count))
+unfolding dtype_written
+dtype-passes count = refl
+
+layout-passes : (count : ℕ) → layout_written (flat_id ∷ []) (footer_of count).layout ≡ Ok (layout_bytes (footer_of count))
+unfolding layout_written
+layout-passes count = refl
+
+-- the tables of a column that end before the last offset pass
+pass : (at count : ℕ) → at + 21 + 44 + 237 < 2 ^ 64 → serialize_checks at (footer_of count) ≡ Ok (parts_of at (dtype_bytes (footer_of count)) (layout_bytes (footer_of count)) (footer_bytes (footer_of count)))
 unfolding serialize_checks
-pass at f d l t ends = rw (segment-short (dtype_bytes f) d, segment-short (layout_bytes f) l, segment-short (footer_bytes f) t, below _ _ ends) refl
+pass at count ends =
+    let f = footer_of count in
+    let fits : nat_lt (at + length (dtype_bytes f) + length (layout_bytes f) + length (footer_bytes f)) (2 ^ 64) ≡ true = below _ _ (omega (arith, ends, dtype-length count, layout-length count, footer-length count)) in
+    rw (dtype-passes count, layout-passes count, segment-short (footer_bytes f) (omega (arith, footer-length count)), fits) refl
 
 -- the tables of a column are not refused
-pub not-refused : (at count : ℕ) (f : Footer) (e : SerializeError) → at < 2 ^ 33 → f ≡ footer_of count → serialize_checks at f ≡ Err e → ⊥
+pub not-refused : (at count : ℕ) (f : FooterContent) (e : SerializeError) → at < 2 ^ 33 → f ≡ footer_of count → serialize_checks at f ≡ Err e → ⊥
 not-refused at count f e low is refused =
-    let ok = pass at (footer_of count) (omega (arith, dtype-length count)) (omega (arith, layout-length count)) (omega (arith, footer-length count))
-    (omega (arith, dtype-length count, layout-length count, footer-length count)) in
     let err : serialize_checks at (footer_of count) ≡ Err e = ap (serialize_checks at) (sym is) ∙ refused in
-    contradiction (sym ok ∙ err)
+    contradiction (sym (pass at count (omega (arith, low))) ∙ err)
   where
     contradiction : {A E : Type 0} {x : A} {e : E} → Ok x ≡ Err e → ⊥
     contradiction h = cc
@@ -129,7 +150,12 @@ ids-utf8 (suc (suc (suc zero))) s e = ascii-text (codes "vortex.varbin") s refl 
 ids-utf8 (suc (suc (suc (suc i)))) s e = absurd cc
 
 is-writable : (size count : ℕ) → column_size count < 2 ^ 32 → 8 + column_size count ≤ size → IsWritable size (footer_of count)
+unfolding flat_footer
 is-writable size count short inside = record {
+  flat = flat_footer (footer_of count) count refl;
+  names = tt;
+  shallow = omega arith;
+  visits = omega arith;
   few = omega arith;
   texts = ids-utf8;
   rows = omega (arith, short);
@@ -144,15 +170,15 @@ is-writable size count short inside = record {
 
 -- a file that ends in a written footer opens to that footer
 abbrev pub Law : Type 0
-Law = (before : List ℕ) (f : Footer) → length (serialized (length before) f) ≤ least_read → length (before ++ serialized (length before) f) < 2 ^ 64
-    → IsWritable (length (before ++ serialized (length before) f)) f → vx_grammar (before ++ serialized (length before) f) ≡ Ok f
+Law = (before : List ℕ) (f : FooterContent) → length (serialized (length before) f) ≤ 65535 → length (before ++ serialized (length before) f) < 2 ^ 64
+    → IsWritable (length (before ++ serialized (length before) f)) f → vx_grammar (before ++ serialized (length before) f) None ≡ Ok f
 
-pub footer-found : Law → (values : List ℤ) → column_size (length values) < 2 ^ 32 → vx_grammar (written values) ≡ Ok (footer_of (length values))
+pub footer-found : Law → (values : List ℤ) → column_size (length values) < 2 ^ 32 → vx_grammar (written values) None ≡ Ok (footer_of (length values))
 footer-found law values short =
     let before = front values in
     let f = footer_of (length values) in
     let size : length (before ++ serialized (length before) f) ≡ 431 + column_size (length values) = sym (ap length (written-parts values)) ∙ written-length values in
-    ap vx_grammar (written-parts values)
+    ap (λ bytes. vx_grammar bytes None) (written-parts values)
     ∙ law before f (omega (arith, tables-length (length before) (length values))) (omega (arith, size, short)) (is-writable _ (length values) short (omega (arith, size)))
 
 -- ---- the rows
@@ -189,3 +215,10 @@ rows-found values fits = ap (column_values known_ids (length values)) (segment-f
 
 pub size-found : (values : List ℤ) → column_size (length values) < 2 ^ 32 → length (written values) < 2 ^ 64
 size-found values short = omega (arith, written-length values, short)
+
+-- the parts of a file, as they are put together
+pub written_bytes : (values : List ℤ) (f : FooterContent) (size : ℕ) → f ≡ footer_of (length values) → size ≡ column_size (length values) → (head ++ column_bytes values) ++ serialized (8 + size) f ≡ written values
+unfolding written
+written_bytes values f size is size_is =
+    ap (λ g. (head ++ column_bytes values) ++ serialized (8 + size) g) is
+    ∙ ap (λ n. (head ++ column_bytes values) ++ serialized (8 + n) (footer_of (length values))) size_is

@@ -6,9 +6,12 @@ use Rattle.std.specs.Option.{option_map}
 use Rattle.std.specs.Str.{bytes_eq}
 use Rattle.vx_base.specs.Buffer.{bytes_at}
 use Rattle.vx_base.specs.declared.segment.SegmentSpec.{SegmentSpec}
-use Rattle.vx_footer.specs.declared.footer.Footer.{Footer}
-use Rattle.vx_footer.specs.declared.ptype.PType.{PType}
-use Rattle.vx_footer.specs.declared.ptype.PType.TheVariants.{I32}
+use Rattle.vx_data.specs.declared.layout_kind.LayoutKind.TheVariants.{Flat}
+use Rattle.vx_data.specs.declared.ptype.PType.TheVariants.{I32}
+use Rattle.vx_data.specs.Dtype.{int}
+use Rattle.vx_data.specs.Layout.{LayoutTree, node, no_layouts}
+use Rattle.vx_footer.specs.declared.version.FileVersion.TheVariants.{V1}
+use Rattle.vx_footer.specs.Footers.{FooterContent}
 use Rattle.vx_footer.specs.Serialized.{serialized}
 
 -- ---- the segment
@@ -43,8 +46,15 @@ abbrev pub segment_spec : ℕ → SegmentSpec
 segment_spec count = record { offset = 8; length = column_size count; alignment = 3 }
 
 -- the footer of a file of so many values: one flat layout of one segment
-abbrev pub footer_of : ℕ → Footer
-footer_of count = record { row_count = count; ptype = I32; segment = record { 0 = 0 }; segments = segment_spec count ∷ []; array_ids = known_ids }
+abbrev pub footer_of : ℕ → FooterContent
+footer_of count = record {
+  version = V1;
+  layout = node Flat (int I32 false) count (0 ∷ []) no_layouts;
+  segments = segment_spec count ∷ [];
+  statistics = None;
+  metadata = [];
+  array_ids = known_ids;
+}
 
 -- the whole file
 unfoldable pub written : List ℤ → List ℕ
@@ -61,7 +71,8 @@ AreI32 (value ∷ values) = FitsSigned w32 value × AreI32 values
 unfoldable pub values_in : ℕ → List ℕ → Option (List ℤ)
 values_in zero [] = Some []
 values_in zero (byte ∷ bytes) = None
-values_in (suc count) bytes = if nat_le 4 (length bytes) then option_map (λ values. cast_signed w32 (from_le_bytes w32 (take 4 bytes)) ∷ values) (values_in count (drop 4 bytes)) else None
+values_in (suc count) bytes =
+    if nat_le 4 (length bytes) then option_map (λ values. cast_signed w32 (from_le_bytes w32 (take 4 bytes)) ∷ values) (values_in count (drop 4 bytes)) else None
 
 abbrev pub is_primitive : Option (List ℕ) → Bool
 is_primitive None = false
@@ -69,16 +80,17 @@ is_primitive (Some id) = bytes_eq id primitive_id
 
 -- the values of a column of so many rows, whose encoding is looked up in these ids
 abbrev pub column_values : List (List ℕ) → ℕ → List ℕ → Option (List ℤ)
-column_values ids rows bytes = if nat_le 2 (length bytes) && is_primitive (slice_get ids (from_le_bytes w16 (take 2 bytes))) then values_in rows (drop 2 bytes) else None
+column_values ids rows bytes =
+    if nat_le 2 (length bytes) && is_primitive (slice_get ids (from_le_bytes w16 (take 2 bytes))) then values_in rows (drop 2 bytes) else None
 
-abbrev pub segment_values : Footer → List ℕ → Option SegmentSpec → Option (List ℤ)
-segment_values f file None = None
-segment_values f file (Some s) = column_values f.array_ids f.row_count (bytes_at file s.offset s.length)
+abbrev pub segment_values : FooterContent → ℕ → List ℕ → Option SegmentSpec → Option (List ℤ)
+segment_values f rows file None = None
+segment_values f rows file (Some s) = column_values f.array_ids rows (bytes_at file s.offset s.length)
 
--- the rows of a file with this footer, where they are of type i32
-abbrev pub rows_of : PType → Footer → List ℕ → Option (List ℤ)
-rows_of I32 f file = segment_values f file (slice_get f.segments f.segment.0)
+-- the rows of a file with this footer and layout, where it is flat, of i32, and not nullable
+abbrev pub rows_of : LayoutTree → FooterContent → List ℕ → Option (List ℤ)
+rows_of (node Flat (int I32 false) rows (segment ∷ []) children) f file = segment_values f rows file (slice_get f.segments segment)
 rows_of _ f file = None
 
-abbrev pub rows : Footer → List ℕ → Option (List ℤ)
-rows f file = rows_of f.ptype f file
+abbrev pub rows : FooterContent → List ℕ → Option (List ℤ)
+rows f file = rows_of f.layout f file

@@ -1,5 +1,5 @@
 -- What writing a column gives.
-use Rattle.std.specs.Prelude.{◌≡◌, ◌⊎◌, ℕ, ℤ, ◌<◌, ◌≤◌, ◌^◌, true, List, length, Option, Some, Result, Ok, Err}
+use Rattle.std.specs.Prelude.{◌≡◌, ◌⊎◌, ℕ, ℤ, ◌<◌, ◌≤◌, ◌^◌, true, List, length, Option, Some, None, Result, Ok, Err}
 use Rattle.vx_base.specs.Counts.{Rises}
 use Rattle.vx_base.specs.declared.fault.SinkError.{SinkError}
 use Rattle.vx_base.specs.declared.fault.SinkError.TheVariants as sink
@@ -15,8 +15,8 @@ pub record WritesColumn (values : List ℤ) (before now : SinkState) (w : Writte
   pub took : Took (written values) before.gained now.gained
   pub flushed : now.is_flushed ≡ true
   pub short : column_size (length values) < 2 ^ 32
-  pub footer : vx_grammar (written values) ≡ Ok w.footer
-  pub rows : rows w.footer (written values) ≡ Some values
+  pub footer : vx_grammar (written values) None ≡ Ok w.footer.content
+  pub rows : rows w.footer.content (written values) ≡ Some values
   pub size : w.size ≡ length (written values)
 
 -- a write failed, and a prefix of the file was taken

@@ -63,7 +63,7 @@ fn counted(alloc: Global, count: i32) -> Result<Vec<i32>, Fail> {
 }
 
 fn lies(file: &File, offset: u64, length: u32) -> bool {
-    let segments: &[SegmentSpec] = file.written.footer.segments.as_slice();
+    let segments: &[SegmentSpec] = file.written.footer.segment_map();
     segments.len() == 1 && segments[0].offset == offset && segments[0].length == length
 }
 
@@ -72,7 +72,7 @@ fn four_values_make_these_bytes(rt: HostRuntime) -> Result<(), Fail> {
     let file = make_file(rt.alloc(), &[1, 2, 3, 4])?;
     assert_eq!(rt; file.bytes.as_slice(), FOUR_VALUES.as_slice());
     assert_eq!(rt; file.written.size, 449);
-    assert_eq!(rt; file.written.footer.row_count, 4);
+    assert_eq!(rt; file.written.footer.row_count(), 4);
     assert!(rt; lies(&file, 8, 18));
     Ok(())
 }

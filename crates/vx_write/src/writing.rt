@@ -10,7 +10,8 @@ use crate::WriteError;
 use crate::column::{column_size, push_column};
 use std::alloc::{AllocError, Global};
 use vx_base::{Alignment, ByteBuffer, SegmentId, SegmentSpec, Sink, SinkError, write_flushed};
-use vx_footer::{Footer, PType, SegmentSpecs, SerializeError, TextList, written_footer_is_read};
+use vx_data::{DType, Layout, PType};
+use vx_footer::{Footer, SerializeError, written_footer_is_read};
 
 /// The magic, and zeros up to the segment.
 const HEAD: &[u8] = b"VTXF\0\0\0\0";
@@ -36,48 +37,68 @@ pub struct Written {
     pub size: u64,
 }
 
-fn array_ids(alloc: Global) -> Result<TextList, AllocError>
-    ensures { IfOk result (λ ids. ids ≡ known_ids) }
+/// Adds an id.
+fn push_id(alloc: Global, ids: &mut Vec<String>, id: &str) -> Result<(), AllocError>
+    ensures { OnOk result (map string_bytes ids.new.items ≡ map string_bytes ids.old.items ++ id.now ∷ []) }
 {
-    let mut ids = TextList::new(alloc);
+    ids.push(String::from_str(alloc, id)?)?;
+    Ok(())
+}
+
+/// The ids of arrays that are known.
+fn array_ids(alloc: Global) -> Result<Vec<String>, AllocError>
+    ensures { IfOk result (λ ids. map string_bytes ids.items ≡ known_ids) }
+{
+    let mut ids = Vec::new(alloc);
     for id in &KNOWN_IDS {
-        ids.push(String::from_str(alloc, id)?)?;
+        push_id(alloc, &mut ids, id)?;
     }
     Ok(ids)
+}
+
+/// The layout of so many values in the first segment.
+fn layout_of(alloc: Global, count: u64) -> Result<Layout, AllocError>
+    ensures { IfOk result (λ layout. layout ≡ (footer_of_count count).layout) }
+{
+    Layout::flat(alloc, DType::Int(PType::I32, false), count, SegmentId(0))
 }
 
 /// The footer of a file of so many values, whose segment has `size` bytes.
 fn footer_of(alloc: Global, count: u64, size: u32) -> Result<Footer, AllocError>
     requires { size ≡ size_of_column count }
-    ensures { IfOk result (λ footer. footer ≡ footer_of_count count) }
+    ensures { IfOk result (λ footer. footer.content ≡ footer_of_count count) }
 {
     let spec = SegmentSpec {
         offset: SEGMENT_OFFSET,
         length: size,
         alignment: Alignment::new(SEGMENT_EXPONENT).unwrap(),
     };
-    Ok(Footer {
-        row_count: count,
-        ptype: PType::I32,
-        segment: SegmentId(0),
-        segments: SegmentSpecs::new(vec![in alloc; spec]?),
-        array_ids: array_ids(alloc)?,
-    })
+    let specs = vec![in alloc; spec]?;
+    Footer::new(
+        alloc,
+        layout_of(alloc, count)?,
+        specs,
+        None,
+        array_ids(alloc)?,
+    )
 }
 
 /// What follows the segment of `size` bytes. These tables are short, so only memory refuses.
+#[tactic(auto, using(crate::proofs::Files::flat_footer))]
 fn tables_of(
     alloc: Global,
     footer: &Footer,
     count: usize,
     size: u32,
 ) -> Result<Vec<ByteBuffer>, AllocError>
-    requires { footer.now ≡ footer_of_count count }
-    ensures { IfOk result (λ buffers. joined buffers.items ≡ serialized (8 + size) footer.now) }
+    requires { footer.now.content ≡ footer_of_count count }
+    ensures { IfOk result (λ buffers. joined buffers.items ≡ serialized (8 + size) footer.now.content) }
 {
     match footer.serialize(alloc, SEGMENT_OFFSET + u64::from(size)) {
         Ok(buffers) => Ok(buffers),
         Err(SerializeError::OutOfMemory) => Err(AllocError),
+        Err(SerializeError::TooDeep) => unreachable!(),
+        Err(SerializeError::TooManyTables) => unreachable!(),
         Err(SerializeError::SegmentTooLong) => unreachable!(),
         Err(SerializeError::OffsetOverflow) => unreachable!(),
     }
@@ -102,7 +123,7 @@ fn file_bytes(
     footer: &Footer,
 ) -> Result<Vec<u8>, AllocError>
     requires size { size ≡ size_of_column (length values.now) }
-    requires footer { footer.now ≡ footer_of_count (length values.now) }
+    requires footer { footer.now.content ≡ footer_of_count (length values.now) }
     ensures bytes { IfOk result (λ bytes. bytes.items ≡ written values.now) }
     ensures fit { IfOk result (λ _. AreI32 values.now) }
 {

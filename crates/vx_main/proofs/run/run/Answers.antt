@@ -1,5 +1,12 @@
-use Rattle.vx_main.proofs.Statuses.{of_named}
+use Rattle.std.proofs.Common.{◌≡◌, Ok, Err, refl, map}
+use Rattle.std.specs.Prelude.{string_bytes}
+use Rattle.vx_main.specs.Command.{command_of}
+use Rattle.vx_main.specs.Outside.{outside}
+use Rattle.vx_main.proofs.StatusRows.{statuses-of}
 use Rattle.vx_main.proofs.run.run.Goals as goal
 
-pub returns-clause-statuses : goal.returns-clause-statuses
-returns-clause-statuses g c = of_named _ c.name_from.result.now _ _ _ c.produce-answer.result c.produce-answer.ensures.cause c.name_from.ensures c.conclude.ensures.concludes
+pub returns-in-Err-clause-statuses : goal.returns-in-Err-clause-statuses
+returns-in-Err-clause-statuses g c = statuses-of (command_of (map string_bytes c.args.words.now))
+    (outside (g.I.Source.state c.args.input.now) (g.F.Opener.state c.args.files.now) (g.O.Sink.state c.args.out.now))
+    (outside (g.I.Source.state c.perform.new.input) (g.F.Opener.state c.perform.new.files) (g.O.Sink.state c.perform.new.out))
+    (g.E.Sink.state c.args.err.now) (g.E.Sink.state c.fail.new.err) c.fail.result (record { result = Err c.in-Err.failure; performs = c.in-Err.ensures.performs; concludes = c.fail.ensures.fails })

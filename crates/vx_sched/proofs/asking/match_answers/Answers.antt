@@ -2,7 +2,7 @@ use Rattle.std.proofs.Common.{◌≡◌, arith}
 use Rattle.std.proofs.lemmas.Grind.{common_steps}
 use Rattle.std.proofs.lemmas.List.Elements.{recursion_from_All}
 use Rattle.vx_base.specs.Asking.{IsTrueTo}
-use Rattle.vx_sched.specs.Outcomes.{outcomes_of}
+use Rattle.vx_sched.proofs.AnswerLemmas.{outcomes_of}
 use Rattle.vx_sched.proofs.AnswerLemmas.{log_of-outcomes, outcomes-are, outcomes-bytes}
 use Rattle.vx_sched.proofs.asking.match_answers.Goals as goal
 

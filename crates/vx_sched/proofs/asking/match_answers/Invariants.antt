@@ -1,5 +1,5 @@
 use Rattle.std.proofs.Common.{◌≡◌, ◌++◌, drop}
-use Rattle.vx_sched.specs.Outcomes.{outcomes_of}
+use Rattle.vx_sched.proofs.AnswerLemmas.{outcomes_of}
 use Rattle.vx_sched.proofs.asking.match_answers.Given as goal
 
 abbrev pub invariant-loop-range : goal.invariant-loop-range

@@ -4,7 +4,7 @@ use Rattle.std.specs.BTreeMap.{is_at}
 use Rattle.std.specs.Ordering.{nat_cmp}
 use Rattle.vx_sched.specs.Entries.{entry_at}
 use Rattle.vx_sched.proofs.EntriesLemmas.{sorted-stage}
-use Rattle.vx_sched.proofs.TableLemmas.{changed-table, after-waits}
+use Rattle.vx_sched.proofs.TableLemmas.{changed-table, after-waits, marked-changed}
 use Rattle.vx_sched.proofs.table.change_entry.Goals as goal
 
 pub returns-in-Some-clause-kept : goal.returns-in-Some-clause-kept
@@ -18,3 +18,7 @@ returns-in-Some-clause-kept c longest k =
     (λ h. rw c.stage_after-stage.ensures (after-waits c.args.change c.in-Some.read.stage h))
     (subst (λ n. (q : ℕ) → entry_at c.put.new.reads.entries q ≡ cond (is_at (nat_cmp n) q) (option_map (λ s. record { request = c.in-Some.read.request; stage = s }) c.stage_after-stage.result) (entry_at c.args.reads.now.entries q)) (sym id) c.put.ensures.lookups)
     c.leave.ensures
+
+pub returns-in-Some-clause-marked : goal.returns-in-Some-clause-marked
+returns-in-Some-clause-marked c =
+    marked-changed c.args.reads.now.entries c.put.new.reads.entries c.args.polls.now c.mark.new.polls c.args.id c.in-Some.read.request c.stage_after-stage.result c.requires c.put.ensures.lookups c.mark.ensures

@@ -1,37 +1,36 @@
-use Rattle.std.proofs.Common.{◌≡◌, ◌<◌, Some, ap, sym, subst, ◌∙◌}
-use Rattle.vx_sched.specs.Entries.{waiting_in, if_waits, if_polls}
-use Rattle.vx_sched.proofs.SeenLemmas.{stands-kept, waiting-seen, polled-seen}
+use Rattle.std.proofs.Common.{◌≡◌, ℕ, ◌<◌, ◌≤◌, true, ap, sym, ◌∙◌}
+use Rattle.std.specs.BTreeSet.{contains}
+use Rattle.std.specs.Ordering.{nat_cmp}
+use Rattle.vx_sched.specs.Reads.{Reads, polled_at}
+use Rattle.vx_sched.proofs.SeenLemmas.{stands-kept, polled-seen}
+use Rattle.vx_sched.proofs.TableLemmas.{raised-polled, polled-small, found-along, found-some}
 use Rattle.vx_sched.proofs.table.Table.next_polled.Goals as goal
-
-pub returns-in-Some-clause-found : goal.returns-in-Some-clause-found
-returns-in-Some-clause-found c =
-    let stands = stands-kept c.self.inside.reads.entries c.self.inside.places c.self.inside.longest c.self.invariant.kept in
-    let number = stands.numbers c.in-Some.field-0-0 _ c.in-Some.ensures.found in
-    rw (← c.self.view_is) (waiting-seen c.self.inside.reads.entries c.in-Some.request.id stands.keyed
-    ∙ subst (λ n. waiting_in c.self.inside.reads.entries n ≡ Some c.in-Some.request) (sym number) (ap if_waits c.in-Some.ensures.found))
 
 pub returns-in-Some-clause-polled : goal.returns-in-Some-clause-polled
 returns-in-Some-clause-polled c =
     let stands = stands-kept c.self.inside.reads.entries c.self.inside.places c.self.inside.longest c.self.invariant.kept in
-    let number = stands.numbers c.in-Some.field-0-0 _ c.in-Some.ensures.found in
-    rw (← c.self.view_is) (polled-seen c.self.inside.reads.entries c.in-Some.request.id stands.keyed ∙ rw number (ap if_polls c.in-Some.ensures.found))
-
-pub returns-in-Some-clause-fresh : goal.returns-in-Some-clause-fresh
-returns-in-Some-clause-fresh c =
-    let stands = stands-kept c.self.inside.reads.entries c.self.inside.places c.self.inside.longest c.self.invariant.kept in
-    let number = stands.numbers c.in-Some.field-0-0 _ c.in-Some.ensures.found in
-    rw number c.in-Some.ensures.fresh
-
-pub returns-in-Some-clause-fits : goal.returns-in-Some-clause-fits
-returns-in-Some-clause-fits c = c.self.invariant.kept.fits c.in-Some.field-0-0 _ c.in-Some.ensures.found
+    found-along (λ n. polled_at c.args.self.now n ≡ true) c.in-Some.id c.waiting.result c.waiting.ensures.keyed
+    (sym (ap (λ (reads : Reads). polled_at reads c.in-Some.id) c.self.view_is) ∙ polled-seen c.self.inside.reads.entries c.in-Some.id stands.keyed
+    ∙ sym (raised-polled c.self.inside.reads.entries c.self.inside.polls c.self.invariant.marked c.in-Some.id) ∙ c.in-Some.ensures.raised)
 
 pub returns-in-Some-clause-least : goal.returns-in-Some-clause-least
-returns-in-Some-clause-least c q from less polled =
+returns-in-Some-clause-least c =
     let stands = stands-kept c.self.inside.reads.entries c.self.inside.places c.self.inside.longest c.self.invariant.kept in
-    let number = stands.numbers c.in-Some.field-0-0 _ c.in-Some.ensures.found in
-    c.in-Some.ensures.least q from (subst (λ n. q < n) number less) (sym (polled-seen c.self.inside.reads.entries q stands.keyed) ∙ rw c.self.view_is polled)
+    found-along (λ n. (q : ℕ) → c.args.from ≤ q → q < n → polled_at c.args.self.now q ≡ true → contains nat_cmp c.args.taken.now q ≡ true) c.in-Some.id c.waiting.result c.waiting.ensures.keyed
+    (λ q f l p. c.in-Some.ensures.least q f l (raised-polled c.self.inside.reads.entries c.self.inside.polls c.self.invariant.marked q
+    ∙ sym (polled-seen c.self.inside.reads.entries q stands.keyed) ∙ ap (λ (reads : Reads). polled_at reads q) c.self.view_is ∙ p))
+
+pub returns-in-Some-clause-none : goal.returns-in-Some-clause-none
+returns-in-Some-clause-none c =
+    let stands = stands-kept c.self.inside.reads.entries c.self.inside.places c.self.inside.longest c.self.invariant.kept in
+    found-some _ c.args.self.now c.in-Some.id
+    (sym (ap (λ (reads : Reads). polled_at reads c.in-Some.id) c.self.view_is) ∙ polled-seen c.self.inside.reads.entries c.in-Some.id stands.keyed
+    ∙ sym (raised-polled c.self.inside.reads.entries c.self.inside.polls c.self.invariant.marked c.in-Some.id) ∙ c.in-Some.ensures.raised)
+    c.waiting.result c.waiting.ensures.value
 
 pub returns-in-None-clause-none : goal.returns-in-None-clause-none
-returns-in-None-clause-none c q from polled =
+returns-in-None-clause-none c q f p =
     let stands = stands-kept c.self.inside.reads.entries c.self.inside.places c.self.inside.longest c.self.invariant.kept in
-    c.in-None.ensures.none q from (sym (polled-seen c.self.inside.reads.entries q stands.keyed) ∙ rw c.self.view_is polled)
+    let entry = sym (polled-seen c.self.inside.reads.entries q stands.keyed) ∙ ap (λ (reads : Reads). polled_at reads q) c.self.view_is ∙ p in
+    c.in-None.ensures.none q f (polled-small c.self.inside.reads.entries c.self.inside.places c.self.inside.longest c.self.invariant.kept q entry)
+    (raised-polled c.self.inside.reads.entries c.self.inside.polls c.self.invariant.marked q ∙ entry)

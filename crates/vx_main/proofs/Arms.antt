@@ -1,0 +1,185 @@
+-- The answers of commands, from the script that they read and the file that they serve.
+use Rattle.std.proofs.Common.{◌≡◌, ℕ, ℤ, ◌<◌, ◌≤◌, true, false, List, [], ◌∷◌, length, Option, Some, None, Result, Ok, Err, refl, sym, ap, subst, ◌∙◌, cond, arith, ◌⊎◌, inl, inr}
+use Rattle.std.specs.Prelude.{is_some, nat_lt, Vec, IsErr}
+use Rattle.std.specs.Global.{Global}
+use Rattle.std.proofs.lemmas.Bool.{le-ltb, lt-ltb}
+use Rattle.vx_base.specs.Openers.{OpenerState, AsksFor}
+use Rattle.vx_base.specs.Streams.{SourceState, SinkState}
+use Rattle.vx_footer.specs.declared.error.OpenError.{OpenError}
+use Rattle.vx_footer.specs.Opening.{vx_grammar}
+use Rattle.vx_file.specs.declared.step.Step.{Step}
+use Rattle.vx_file.specs.declared.served.Served.{Served}
+use Rattle.vx_file.specs.Serving.{repeats}
+use Rattle.vx_write.specs.Column.{written}
+use Rattle.vx_main.specs.declared.answer.Answer.{Answer}
+use Rattle.vx_main.specs.declared.answer.Answer.TheVariants as answers
+use Rattle.vx_main.specs.declared.command.Command.{Command}
+use Rattle.vx_main.specs.declared.command.Command.TheVariants as commands
+use Rattle.vx_main.specs.declared.commands.serve.Serve as serve
+use Rattle.vx_main.specs.declared.commands.demo.Demo as demo
+use Rattle.vx_main.specs.declared.failure.Failure.{Failure}
+use Rattle.vx_main.specs.declared.failure.Failure.TheVariants as failures
+use Rattle.vx_main.specs.declared.input.TheConstants.{MOST_INPUT}
+use Rattle.vx_main.specs.Command.{names_of, reads_script}
+use Rattle.vx_main.specs.Demo.{Demonstrates, DemoCause}
+use Rattle.vx_main.specs.Failures.{HasCause, LeavesFiles}
+use Rattle.vx_main.specs.Input.{ReadsScript, ScriptCause, BadLine, BadScript, BadLength}
+use Rattle.vx_main.specs.Outputs.{IsTold, wanted_status, input_status, script_status, file_status, grammar_status}
+use Rattle.vx_main.specs.Outside.{outside}
+use Rattle.vx_main.specs.Runs.{Gathers}
+use Rattle.vx_main.specs.Script.{script_of}
+use Rattle.vx_main.specs.Served.{FileCause, ServesFile, RefusesFile}
+use Rattle.vx_main.specs.Streams.{ReadToEnd, TooLong}
+
+-- ---- the status of an input
+
+-- an input that is not too long has the status of its script
+short-status : (text : List ℕ) (file : ℕ) → length text ≤ MOST_INPUT → input_status (Some text) file ≡ script_status (script_of text) file
+short-status text file short = ap (λ long. cond long 9 (script_status (script_of text) file)) (le-ltb MOST_INPUT (length text) short)
+
+line-status : (line : ℕ) (before now : SourceState) (rest : Option (List ℕ)) (file : ℕ) → before.rest ≡ rest → is_some rest ≡ true → BadLine line before now → input_status rest file ≡ 3
+line-status line before now None file e told h = absurd cc
+line-status line before now (Some text) file e told h = let k = h text e in short-status text file k.0.short ∙ ap (λ s. script_status s file) k.1
+
+twice-status : (before now : SourceState) (rest : Option (List ℕ)) (file : ℕ) → before.rest ≡ rest → is_some rest ≡ true → BadScript before now → input_status rest file ≡ 3
+twice-status before now None file e told h = absurd cc
+twice-status before now (Some text) file e told h =
+    let k = h text e in
+    short-status text file k.0.short ∙ ap (λ s. script_status s file) k.1.1 ∙ ap (λ t. cond t 3 file) k.1.2
+
+long-status : (before now : SourceState) (rest : Option (List ℕ)) (file : ℕ) → before.rest ≡ rest → is_some rest ≡ true → BadLength before now → input_status rest file ≡ 9
+long-status before now None file e told h = absurd cc
+long-status before now (Some text) file e told h = ap (λ long. cond long 9 (script_status (script_of text) file)) (lt-ltb MOST_INPUT (length text) (h text e).long)
+
+-- an input that spells a script has the status of the file
+read-status : (before now : SourceState) (steps : List Step) (rest : Option (List ℕ)) (file : ℕ) → before.rest ≡ rest → is_some rest ≡ true → ReadsScript before now steps → input_status rest file ≡ file
+read-status before now steps None file e told h = absurd cc
+read-status before now steps (Some text) file e told h =
+    let k = h.spelled text e in
+    short-status text file k.0.short ∙ ap (λ s. script_status s file) k.1 ∙ ap (λ t. cond t 3 file) h.distinct
+
+-- ---- the script is wanting
+
+pub script-fails : (c : Command) (file : ℕ) (source source_now : SourceState) (files : OpenerState) (failure : Failure) → reads_script c ≡ true
+    → ((out : SinkState) → wanted_status c (outside source files out) ≡ input_status source.rest file)
+    → ((out : SinkState) → IsTold c (outside source files out) → is_some source.rest ≡ true)
+    → LeavesFiles c files files → ScriptCause source source_now (Err failure) → Gathers c source source_now files files (Err failure)
+script-fails c file source source_now files failures.Usage reads wanted told leaves h = absurd h
+script-fails c file source source_now files (failures.Line line) reads wanted told leaves h = record {
+  each = λ out. record {
+    fault = record { reads = reads; wants = h; files = refl; out = refl };
+    deserved = λ t. wanted out ∙ line-status line source source_now source.rest file refl (told out t) h;
+  };
+}
+script-fails c file source source_now files failures.Script reads wanted told leaves h = record {
+  each = λ out. record {
+    fault = record { reads = reads; wants = h; files = refl; out = refl };
+    deserved = λ t. wanted out ∙ twice-status source source_now source.rest file refl (told out t) h;
+  };
+}
+script-fails c file source source_now files (failures.Refused refusal) reads wanted told leaves h = absurd h
+script-fails c file source source_now files (failures.Read fault) reads wanted told leaves h = absurd h
+script-fails c file source source_now files failures.Input reads wanted told leaves h = record { each = λ out. record { reads = reads; wants = h; files = refl; out = refl } }
+script-fails c file source source_now files failures.Output reads wanted told leaves h = absurd h
+script-fails c file source source_now files (failures.Open name) reads wanted told leaves h = absurd h
+script-fails c file source source_now files failures.InputTooLong reads wanted told leaves h = record {
+  each = λ out. record {
+    fault = record { reads = reads; wants = h; files = refl; out = refl };
+    deserved = λ t. wanted out ∙ long-status source source_now source.rest file refl (told out t) h;
+  };
+}
+script-fails c file source source_now files failures.OutOfMemory reads wanted told leaves h = record { each = λ out. record { files = leaves; out = inl refl } }
+
+-- ---- serve
+
+pub serve-unread : (s : serve.Serve) (source source_now : SourceState) (files : OpenerState) (failure : Failure) → ScriptCause source source_now (Err failure)
+    → Gathers (commands.Serve s) source source_now files files (Err failure)
+serve-unread s source source_now files failure h =
+    script-fails (commands.Serve s) (file_status (files.file s.name)) source source_now files failure refl (λ out. refl) (λ out told. told.0) (inl (record { asked = refl; returned = refl })) h
+
+refused-status : (refusal : OpenError) (o : Option (List ℕ)) → is_some o ≡ true → ((file : List ℕ) → o ≡ Some file → vx_grammar file None ≡ Err refusal) → file_status o ≡ 4
+refused-status refusal None told h = absurd cc
+refused-status refusal (Some file) told h = ap grammar_status (h file refl)
+
+pub serve-fails : (s : serve.Serve) (steps : List Step) (source source_now : SourceState) (files files_now : OpenerState) (failure : Failure) → ReadsScript source source_now steps
+    → FileCause s.name steps files files_now (Err failure) → Gathers (commands.Serve s) source source_now files files_now (Err failure)
+serve-fails s steps source source_now files files_now failures.Usage script h = absurd h
+serve-fails s steps source source_now files files_now (failures.Line line) script h = absurd h
+serve-fails s steps source source_now files files_now failures.Script script h = absurd h
+serve-fails s steps source source_now files files_now (failures.Refused refusal) script h = record {
+  each = λ out. record {
+    name = s.name;
+    asks = record { named = refl; steps = steps; script = script; asked = h.0; out = refl };
+    back = h.1;
+    refuses = h.2;
+    deserved = λ told. read-status source source_now steps source.rest (file_status (files.file s.name)) refl told.0 script
+        ∙ refused-status refusal (files.file s.name) told.1 (λ file e. (h.2 file e).fails);
+  };
+}
+serve-fails s steps source source_now files files_now (failures.Read fault) script h = record {
+  each = λ out. record {
+    name = s.name;
+    asks = record { named = refl; steps = steps; script = script; asked = h.0; out = refl };
+    back = h.1;
+    rose = h.2;
+    lacks = h.3;
+  };
+}
+serve-fails s steps source source_now files files_now failures.Input script h = absurd h
+serve-fails s steps source source_now files files_now failures.Output script h = absurd h
+serve-fails s steps source source_now files files_now (failures.Open name) script h = record {
+  each = λ out. record {
+    asks = record { named = ap (λ n. n ∷ []) (sym h.0); steps = steps; script = script; asked = subst (λ n. AsksFor n files files_now) (sym h.0) h.1; out = refl };
+    rose = h.2;
+  };
+}
+serve-fails s steps source source_now files files_now failures.InputTooLong script h = absurd h
+serve-fails s steps source source_now files files_now failures.OutOfMemory script h = record { each = λ out. record { files = h; out = inl refl } }
+
+served-status : (o : Option (List ℕ)) (served : Served) → is_some o ≡ true → ((file : List ℕ) → o ≡ Some file → vx_grammar file None ≡ Ok served.footer.content) → file_status o ≡ 0
+served-status None served told h = absurd cc
+served-status (Some file) served told h = ap grammar_status (h file refl)
+
+pub serve-answers : (s : serve.Serve) (steps : List Step) (source source_now : SourceState) (files files_now : OpenerState) (served : Served) → ReadsScript source source_now steps
+    → FileCause s.name steps files files_now (Ok served) → Gathers (commands.Serve s) source source_now files files_now (Ok (answers.Served served))
+serve-answers s steps source source_now files files_now served script h = record {
+  each = λ out. record {
+    is = record { served = served; is = refl; steps = steps; script = script; asked = h.0; back = h.1; serves = h.2 };
+    deserved = λ told. read-status source source_now steps source.rest (file_status (files.file s.name)) refl told.0 script
+        ∙ served-status (files.file s.name) served told.1 (λ file e. (h.2 file e).footer);
+  };
+}
+
+-- memory for the text of the type is wanting
+pub serve-unprinted : (s : serve.Serve) (steps : List Step) (source source_now : SourceState) (files files_now : OpenerState) (served : Served) → FileCause s.name steps files files_now (Ok served)
+    → Gathers (commands.Serve s) source source_now files files_now (Err failures.OutOfMemory)
+serve-unprinted s steps source source_now files files_now served h = record { each = λ out. record { files = inr (record { asked = h.0; back = inl h.1 }); out = inl refl } }
+
+-- ---- demo
+
+pub demo-unread : (d : demo.Demo) (source source_now : SourceState) (files : OpenerState) (failure : Failure) → ScriptCause source source_now (Err failure)
+    → Gathers (commands.Demo d) source source_now files files (Err failure)
+demo-unread d source source_now files failure h =
+    script-fails (commands.Demo d) (grammar_status (vx_grammar (written d.values) None)) source source_now files failure refl (λ out. refl) (λ out told. told) refl h
+
+pub demo-fails : (d : demo.Demo) (steps : List Step) (source source_now : SourceState) (files : OpenerState) (failure : Failure) → DemoCause d.values steps (Err failure)
+    → Gathers (commands.Demo d) source source_now files files (Err failure)
+demo-fails d steps source source_now files failures.Usage h = absurd h
+demo-fails d steps source source_now files (failures.Line line) h = absurd h
+demo-fails d steps source source_now files failures.Script h = absurd h
+demo-fails d steps source source_now files (failures.Refused refusal) h = absurd h
+demo-fails d steps source source_now files (failures.Read fault) h = absurd h
+demo-fails d steps source source_now files failures.Input h = absurd h
+demo-fails d steps source source_now files failures.Output h = absurd h
+demo-fails d steps source source_now files (failures.Open name) h = absurd h
+demo-fails d steps source source_now files failures.InputTooLong h = absurd h
+demo-fails d steps source source_now files failures.OutOfMemory h = record { each = λ out. record { files = refl; out = inl refl } }
+
+pub demo-answers : (d : demo.Demo) (steps : List Step) (source source_now : SourceState) (files : OpenerState) (served : Served) → ReadsScript source source_now steps
+    → Demonstrates d.values steps served → Gathers (commands.Demo d) source source_now files files (Ok (answers.Served served))
+demo-answers d steps source source_now files served script h = record {
+  each = λ out. record {
+    is = record { served = served; is = refl; steps = steps; script = script; demonstrates = h; files = refl };
+    deserved = λ told. read-status source source_now steps source.rest (grammar_status (vx_grammar (written d.values) None)) refl told script ∙ ap grammar_status h.holds.grammar;
+  };
+}

@@ -1,0 +1,102 @@
+-- The cause of what was served from the file of a name, from the causes of its parts.
+use Rattle.std.proofs.Common.{◌≡◌, ℕ, ◌+◌, ◌≤◌, min, List, [], ◌∷◌, ◌++◌, true, Option, Some, Result, Ok, Err, ap, subst, ◌∙◌, arith, ◌⊎◌, inl, inr}
+use Rattle.std.specs.Prelude.{Vec}
+use Rattle.std.specs.Global.{Global}
+use Rattle.std.specs.Option.{option_map}
+use Rattle.vx_base.specs.Asking.{Log}
+use Rattle.vx_base.specs.Counts.{Rises, last_count}
+use Rattle.vx_base.specs.Openers.{OpenerState, Returned, AsksFor}
+use Rattle.vx_base.specs.Readers.{ReaderState}
+use Rattle.vx_base.specs.Streams.{SourceState}
+use Rattle.vx_sched.specs.declared.fault.Fault.{Fault}
+use Rattle.vx_file.specs.declared.step.Step.{Step}
+use Rattle.vx_file.specs.declared.served.Served.{Served}
+use Rattle.vx_file.specs.Logs.{Grew}
+use Rattle.vx_footer.specs.declared.error.OpenError.{OpenError}
+use Rattle.vx_file.specs.Ranges.{opened as opened_ranges}
+use Rattle.vx_file.specs.Serving.{ServedFrom, asked, faulty, SizeFault, TailFault, RefusedFrom, repeats}
+use Rattle.vx_file.specs.Turns.{bad_replies}
+use Rattle.vx_main.specs.declared.failure.Failure.{Failure}
+use Rattle.vx_main.specs.declared.failure.Failure.TheVariants as failures
+use Rattle.vx_main.specs.Input.{ReadsScript, ScriptCause, StepsCause}
+use Rattle.vx_main.specs.Script.{script_of}
+use Rattle.vx_main.specs.Served.{ReaderCause, ReaderFault, FileCause, GivesBack, GaveBack, AskedAndBack, ServesFile, RefusesFile, LacksSize, LacksTail}
+use Rattle.vx_main.specs.Streams.{ReadToEnd}
+
+pub script-cause : (before now : SourceState) (text : List ℕ) (answer : Result (Vec Step Global) Failure) → ((t : List ℕ) → before.rest ≡ Some t → (text ≡ t) × ReadToEnd t now) → StepsCause text answer → ScriptCause before now answer
+script-cause before now text (Ok steps) read h = record { spelled = λ t told. let r = read t told in (r.1, subst (λ x. script_of x ≡ Ok steps.items) r.0 h.0); distinct = h.1 }
+script-cause before now text (Err (failures.Line line)) read h = λ t told. let r = read t told in (r.1, subst (λ x. script_of x ≡ Err line) r.0 h)
+script-cause before now text (Err failures.Script) read h = λ t told. let r = read t told in (r.1, subst (λ x. (steps : List Step) × (script_of x ≡ Ok steps) × (repeats [] steps ≡ true)) r.0 h)
+script-cause before now text (Err failures.OutOfMemory) read h = tt
+script-cause before now text (Err failures.Usage) read h = absurd h
+script-cause before now text (Err (failures.Refused refusal)) read h = absurd h
+script-cause before now text (Err (failures.Read fault)) read h = absurd h
+script-cause before now text (Err failures.Input) read h = absurd h
+script-cause before now text (Err failures.Output) read h = absurd h
+script-cause before now text (Err (failures.Open name)) read h = absurd h
+script-cause before now text (Err failures.InputTooLong) read h = absurd h
+
+-- a reader was opened by a name and taken back
+pub record Lent (name : List ℕ) (before now : OpenerState) (opened served : ReaderState) : Type 0 where
+  pub told : (b : List ℕ) → before.file name ≡ Some b → opened.bytes ≡ Some b
+  pub fresh : (all : List Returned) → before.returned ≡ Some all → opened.log ≡ Some []
+  pub faultless : opened.faults ≡ 0
+  pub asked : AsksFor name before now
+  pub returned : now.returned ≡ option_map (λ all. all ++ record { name = name; log = served.log } ∷ []) before.returned
+  pub counted : now.read_faults ≡ min (before.read_faults + served.faults) last_count
+  pub never_falls : before.read_faults ≤ now.read_faults
+
+rises-through : (by before now opened served : ℕ) → opened ≡ 0 → now ≡ min (before + served) last_count → before ≤ now → Rises by opened served → Rises by before now
+rises-through by before now opened served none counted later h = record { later = later; risen = omega (arith, h.later, h.risen) }
+
+fresh-log : (gained : Log) (before now : Option Log) → before ≡ Some [] → Grew gained before now → now ≡ Some gained
+fresh-log gained before now fresh h = h ∙ ap (λ log. option_map (λ l. l ++ gained) log) fresh
+
+gave-back : (name : List ℕ) (before now : OpenerState) (opened served : ReaderState) → Lent name before now opened served → GaveBack name before now
+gave-back name before now opened served lent = record { log = served.log; returned = lent.returned }
+
+gives-back : (name : List ℕ) (before now : OpenerState) (opened served : ReaderState) (gained : Log) → Lent name before now opened served → Grew gained opened.log served.log → GivesBack name before now gained
+gives-back name before now opened served gained lent grew = record {
+  log = served.log;
+  returned = lent.returned;
+  asked = λ all told. fresh-log gained opened.log served.log (lent.fresh all told) grew;
+}
+
+serves-file : (file name : List ℕ) (script : List Step) (before now : OpenerState) (opened served : ReaderState) (s : Served) → Lent name before now opened served → ServedFrom file script opened served s
+    → ServesFile file name script before now s
+serves-file file name script before now opened served s lent h = record {
+  footer = h.footer;
+  opening = h.opening;
+  fits = h.fits;
+  back = gives-back name before now opened served (asked s) lent h.asked;
+  bad = rises-through (bad_replies s.replies) before.read_faults now.read_faults opened.faults served.faults lent.faultless lent.counted lent.never_falls h.bad;
+}
+
+lacks : (file name : List ℕ) (fault : Fault) (before now : OpenerState) (opened served : ReaderState) → Lent name before now opened served → SizeFault opened served fault ⊎ TailFault file opened served fault
+    → LacksSize name fault before now ⊎ LacksTail file name fault before now
+lacks file name fault before now opened served lent (inl h) = inl (record { is = h.is; back = gives-back name before now opened served [] lent h.asked })
+lacks file name fault before now opened served lent (inr h) = inr (record {
+  front = h.front;
+  range = h.range;
+  rest = h.rest;
+  ranges = h.ranges;
+  place = h.place;
+  back = gives-back name before now opened served (opened_ranges h.front ++ faulty h.range fault ∷ []) lent h.asked;
+})
+
+refuses : (file name : List ℕ) (refusal : OpenError) (before now : OpenerState) (opened served : ReaderState) → Lent name before now opened served → RefusedFrom file opened served refusal → RefusesFile file name refusal before now
+refuses file name refusal before now opened served lent h = record { fails = h.fails; back = gives-back name before now opened served _ lent h.asked }
+
+pub file-cause : (name : List ℕ) (script : List Step) (before now : OpenerState) (opened served : ReaderState) (answer : Result Served Failure) → Lent name before now opened served
+    → ((file : List ℕ) → opened.bytes ≡ Some file → ReaderCause file script opened served answer) → ReaderFault opened served answer → FileCause name script before now answer
+file-cause name script before now opened served (Ok s) lent cause read = (lent.asked, gave-back name before now opened served lent, λ file told. serves-file file name script before now opened served s lent (cause file (lent.told file told)))
+file-cause name script before now opened served (Err (failures.Read fault)) lent cause read = (lent.asked, gave-back name before now opened served lent, rises-through 1 before.read_faults now.read_faults opened.faults served.faults lent.faultless lent.counted lent.never_falls read, λ file told. lacks file name fault before now opened served lent (cause file (lent.told file told)))
+file-cause name script before now opened served (Err (failures.Refused refusal)) lent cause read = (lent.asked, gave-back name before now opened served lent, λ file told. refuses file name refusal before now opened served lent (cause file (lent.told file told)))
+file-cause name script before now opened served (Err failures.OutOfMemory) lent cause read = inr (record { asked = lent.asked; back = inl (gave-back name before now opened served lent) })
+file-cause name script before now opened served (Err (failures.Line line)) lent cause read = absurd read
+file-cause name script before now opened served (Err failures.Script) lent cause read = absurd read
+file-cause name script before now opened served (Err failures.Usage) lent cause read = absurd read
+file-cause name script before now opened served (Err failures.Input) lent cause read = absurd read
+file-cause name script before now opened served (Err failures.Output) lent cause read = absurd read
+file-cause name script before now opened served (Err (failures.Open opened_name)) lent cause read = absurd read
+file-cause name script before now opened served (Err failures.InputTooLong) lent cause read = absurd read

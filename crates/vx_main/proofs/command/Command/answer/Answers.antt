@@ -1,0 +1,8 @@
+use Rattle.std.proofs.Common.{subst, sym}
+use Rattle.vx_main.specs.Outside.{Keeps}
+use Rattle.vx_main.proofs.command.Command.answer.Goals as goal
+
+pub returns-in-Demo-clause-keeps : goal.returns-in-Demo-clause-keeps
+returns-in-Demo-clause-keeps g c =
+    let files = g.F.Opener.state c.args.files.now in
+    subst (λ x. Keeps x (g.I.Source.state c.args.input.now) (g.I.Source.state c.answer-in-Demo.new.input) files files) (sym c.in-Demo.is) (c.answer-in-Demo.ensures.keeps files)

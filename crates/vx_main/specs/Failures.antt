@@ -1,0 +1,144 @@
+-- The failures of the program: each with its status, its line, and its cause.
+use Rattle.std.specs.Prelude.{◌≡◌, ℕ, true, List, [], ◌∷◌, ◌++◌, codes, decimal, Some, ◌⊎◌}
+use Rattle.vx_base.specs.Counts.{Rises}
+use Rattle.vx_base.specs.Openers.{OpenerState, AsksFor}
+use Rattle.vx_base.specs.Streams.{SinkState, SourceState, Took, TookPrefix}
+use Rattle.vx_footer.specs.declared.error.OpenError.{OpenError}
+use Rattle.vx_sched.specs.declared.fault.Fault.{Fault}
+use Rattle.vx_sched.specs.declared.fault.Place.{Place}
+use Rattle.vx_sched.specs.declared.fault.Place.TheVariants.{Size, Range}
+use Rattle.vx_file.specs.declared.step.Step.{Step}
+use Rattle.vx_main.specs.declared.answer.Answer.{Answer}
+use Rattle.vx_main.specs.declared.command.Command.{Command}
+use Rattle.vx_main.specs.declared.command.Command.TheVariants.{Help, Version, Serve, Demo}
+use Rattle.vx_main.specs.declared.failure.Failure.{Failure}
+use Rattle.vx_main.specs.declared.failure.Failure.TheVariants as failures
+use Rattle.vx_main.specs.Command.{names_of, reads_script}
+use Rattle.vx_main.specs.Input.{ReadsScript, BadLine, BadScript, BadLength}
+use Rattle.vx_main.specs.Outputs.{IsAnswer, text_of, Deserves}
+use Rattle.vx_main.specs.Outside.{Outside}
+use Rattle.vx_main.specs.Refusals.{refusal_words}
+use Rattle.vx_main.specs.Render.{fault_words}
+use Rattle.vx_main.specs.Served.{GaveBack, LeavesOpener, RefusesFile, LacksSize, LacksTail}
+
+-- ---- statuses and lines
+
+abbrev pub status_of : Failure → ℕ
+status_of failures.Usage = 2
+status_of (failures.Line line) = 3
+status_of failures.Script = 3
+status_of (failures.Refused refusal) = 4
+status_of (failures.Read fault) = 5
+status_of failures.Input = 6
+status_of failures.Output = 7
+status_of (failures.Open name) = 8
+status_of failures.InputTooLong = 9
+status_of failures.OutOfMemory = 70
+
+-- a read that failed is named by its kind and range, and the call for the size by its place alone
+abbrev pub read_words : Fault → Place → List ℕ
+read_words fault Size = codes "size"
+read_words fault (Range offset size) = fault_words fault
+
+abbrev pub failure_words : Failure → List ℕ
+failure_words failures.Usage = codes "usage"
+failure_words (failures.Line line) = codes "line " ++ decimal line
+failure_words failures.Script = codes "script"
+failure_words (failures.Refused refusal) = refusal_words refusal
+failure_words (failures.Read fault) = codes "read " ++ read_words fault fault.place
+failure_words failures.Input = codes "input"
+failure_words failures.Output = codes "output"
+failure_words (failures.Open name) = codes "open " ++ name
+failure_words failures.InputTooLong = codes "input too long"
+failure_words failures.OutOfMemory = codes "memory"
+
+-- the line on the error stream
+abbrev pub message_of : Failure → List ℕ
+message_of failure = codes "vx: " ++ failure_words failure ++ 10 ∷ []
+
+-- ---- causes
+
+-- the script that the command reads from its input is wanting: no file was opened, and nothing was printed
+pub record ScriptFault (c : Command) (before now : Outside) (Wants : SourceState → SourceState → Type 0) : Type 0 where
+  pub reads : reads_script c ≡ true
+  pub wants : Wants before.source now.source
+  pub files : now.files ≡ before.files
+  pub out : now.out ≡ before.out
+
+-- a script that deserves this status
+pub record BadInput (c : Command) (before now : Outside) (code : ℕ) (Wants : SourceState → SourceState → Type 0) : Type 0 where
+  pub fault : ScriptFault c before now Wants
+  pub deserved : Deserves c before code
+
+abbrev pub SourceFails : SourceState → SourceState → Type 0
+SourceFails before now = Rises 1 before.faults now.faults
+
+-- the script was read, and the one file of the command was asked for: nothing was printed
+pub record Asks (c : Command) (before now : Outside) (name : List ℕ) : Type 0 where
+  pub named : names_of c ≡ name ∷ []
+  pub steps : List Step
+  pub script : ReadsScript before.source now.source steps
+  pub asked : AsksFor name before.files now.files
+  pub out : now.out ≡ before.out
+
+-- the file could not be opened
+pub record OpenFault (c : Command) (before now : Outside) (name : List ℕ) : Type 0 where
+  pub asks : Asks c before now name
+  pub rose : Rises 1 before.files.faults now.files.faults
+
+-- the file could not be read, and its reader was given back
+pub record ReadFault (c : Command) (before now : Outside) (fault : Fault) : Type 0 where
+  pub name : List ℕ
+  pub asks : Asks c before now name
+  pub back : GaveBack name before.files now.files
+  pub rose : Rises 1 before.files.read_faults now.files.read_faults
+  pub lacks : (file : List ℕ) → before.files.file name ≡ Some file →
+      LacksSize name fault before.files now.files ⊎ LacksTail file name fault before.files now.files
+
+-- the file fails an opening check, and its reader was given back
+pub record Refusal (c : Command) (before now : Outside) (refusal : OpenError) : Type 0 where
+  pub name : List ℕ
+  pub asks : Asks c before now name
+  pub back : GaveBack name before.files now.files
+  pub refuses : (file : List ℕ) → before.files.file name ≡ Some file → RefusesFile file name refusal before.files now.files
+  pub deserved : Deserves c before 4
+
+-- a write of the answer's text failed, and a prefix of it stands on the output
+pub record OutputFault (c : Command) (before now : Outside) : Type 0 where
+  pub answer : Answer
+  pub is : IsAnswer c before now answer
+  pub took : TookPrefix (text_of answer) before.out.gained now.out.gained
+  pub rose : Rises 1 before.out.faults now.out.faults
+
+-- a write of the answer's text found no memory, and a prefix of it stands on the output
+pub record Unfinished (c : Command) (before now : Outside) : Type 0 where
+  pub answer : Answer
+  pub is : IsAnswer c before now answer
+  pub took : TookPrefix (text_of answer) before.out.gained now.out.gained
+  pub rose : Rises 1 before.out.memory_faults now.out.memory_faults
+
+-- what a command without memory leaves of the files: the one that it opens was asked for at most once, and
+-- its reader was given back
+abbrev pub LeavesFiles : Command → OpenerState → OpenerState → Type 0
+LeavesFiles Help before now = now ≡ before
+LeavesFiles Version before now = now ≡ before
+LeavesFiles (Serve s) before now = LeavesOpener s.name before now
+LeavesFiles (Demo d) before now = now ≡ before
+
+-- memory ran out
+pub record Stopped (c : Command) (before now : Outside) : Type 0 where
+  pub files : LeavesFiles c before.files now.files
+  pub out : (now.out ≡ before.out) ⊎ Unfinished c before now
+
+-- the cause of each failure of a command
+abbrev pub HasCause : Command → Outside → Outside → Failure → Type 0
+HasCause c before now failures.Usage = ⊥
+HasCause c before now (failures.Line line) = BadInput c before now 3 (BadLine line)
+HasCause c before now failures.Script = BadInput c before now 3 BadScript
+HasCause c before now failures.InputTooLong = BadInput c before now 9 BadLength
+HasCause c before now failures.Input = ScriptFault c before now SourceFails
+HasCause c before now (failures.Open name) = OpenFault c before now name
+HasCause c before now (failures.Read fault) = ReadFault c before now fault
+HasCause c before now (failures.Refused refusal) = Refusal c before now refusal
+HasCause c before now failures.Output = OutputFault c before now
+HasCause c before now failures.OutOfMemory = Stopped c before now

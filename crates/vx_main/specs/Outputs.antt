@@ -1,0 +1,99 @@
+-- What each command prints, and the status that it deserves.
+use Rattle.std.specs.Prelude.{◌≡◌, ℕ, ℤ, true, List, [], length, codes, Option, Some, None, is_some, Result, Ok, Err, nat_lt, if◌then◌else◌}
+use Rattle.vx_base.specs.Openers.{AsksFor}
+use Rattle.vx_footer.specs.Opening.{vx_grammar}
+use Rattle.vx_file.specs.declared.step.Step.{Step}
+use Rattle.vx_file.specs.declared.served.Served.{Served}
+use Rattle.vx_file.specs.Serving.{repeats}
+use Rattle.vx_write.specs.Column.{written}
+use Rattle.vx_main.specs.declared.answer.Answer.{Answer}
+use Rattle.vx_main.specs.declared.answer.Answer.TheVariants as answers
+use Rattle.vx_main.specs.declared.command.Command.{Command}
+use Rattle.vx_main.specs.declared.command.Command.TheVariants.{Help, Version, Serve, Demo}
+use Rattle.vx_main.specs.declared.input.TheConstants.{MOST_INPUT}
+use Rattle.vx_main.specs.Demo.{Demonstrates}
+use Rattle.vx_main.specs.Help.{help_text}
+use Rattle.vx_main.specs.Input.{ReadsScript}
+use Rattle.vx_main.specs.Outside.{Outside}
+use Rattle.vx_main.specs.Render.{render_text}
+use Rattle.vx_main.specs.Script.{script_of}
+use Rattle.vx_main.specs.Served.{ServesFile, GaveBack}
+
+-- ---- texts
+
+abbrev pub version_text : List ℕ
+version_text = codes "vx 0.1.0\n"
+
+-- the text of an answer
+abbrev pub text_of : Answer → List ℕ
+text_of answers.Help = help_text
+text_of answers.Version = version_text
+text_of (answers.Served served) = render_text served
+
+-- a fixed text, for which nothing was read and no file was opened
+pub record IsFixed (fixed : Answer) (before now : Outside) (answer : Answer) : Type 0 where
+  pub is : answer ≡ fixed
+  pub source : now.source ≡ before.source
+  pub files : now.files ≡ before.files
+
+-- the script of the input was served from the file of a name
+pub record IsServed (name : List ℕ) (before now : Outside) (answer : Answer) : Type 0 where
+  pub served : Served
+  pub is : answer ≡ answers.Served served
+  pub steps : List Step
+  pub script : ReadsScript before.source now.source steps
+  pub asked : AsksFor name before.files now.files
+  pub back : GaveBack name before.files now.files
+  pub serves : (file : List ℕ) → before.files.file name ≡ Some file → ServesFile file name steps before.files now.files served
+
+-- the script of the input was served from the file of some values, and no file was opened
+pub record IsDemonstrated (values : List ℤ) (before now : Outside) (answer : Answer) : Type 0 where
+  pub served : Served
+  pub is : answer ≡ answers.Served served
+  pub steps : List Step
+  pub script : ReadsScript before.source now.source steps
+  pub demonstrates : Demonstrates values steps served
+  pub files : now.files ≡ before.files
+
+-- what each command answers
+abbrev pub IsAnswer : Command → Outside → Outside → Answer → Type 0
+IsAnswer Help before now answer = IsFixed answers.Help before now answer
+IsAnswer Version before now answer = IsFixed answers.Version before now answer
+IsAnswer (Serve s) before now answer = IsServed s.name before now answer
+IsAnswer (Demo d) before now answer = IsDemonstrated d.values before now answer
+
+-- ---- the status that a command deserves
+
+abbrev pub grammar_status : {A E : Type 0} → Result A E → ℕ
+grammar_status (Ok footer) = 0
+grammar_status (Err refusal) = 4
+
+-- the status of the file, where the script can be read
+abbrev pub script_status : Result (List Step) ℕ → ℕ → ℕ
+script_status (Err line) file = 3
+script_status (Ok steps) file = if repeats [] steps then 3 else file
+
+abbrev pub input_status : Option (List ℕ) → ℕ → ℕ
+input_status None file = file
+input_status (Some text) file = if nat_lt MOST_INPUT (length text) then 9 else script_status (script_of text) file
+
+abbrev pub file_status : Option (List ℕ) → ℕ
+file_status None = 0
+file_status (Some file) = grammar_status (vx_grammar file None)
+
+-- the status that the words, the input and the file deserve
+abbrev pub wanted_status : Command → Outside → ℕ
+wanted_status Help before = 0
+wanted_status Version before = 0
+wanted_status (Serve s) before = input_status before.source.rest (file_status (before.files.file s.name))
+wanted_status (Demo d) before = input_status before.source.rest (grammar_status (vx_grammar (written d.values) None))
+
+-- what a command reads is told
+abbrev pub IsTold : Command → Outside → Type 0
+IsTold Help before = Unit {0}
+IsTold Version before = Unit {0}
+IsTold (Serve s) before = (is_some before.source.rest ≡ true) × (is_some (before.files.file s.name) ≡ true)
+IsTold (Demo d) before = is_some before.source.rest ≡ true
+
+abbrev pub Deserves : Command → Outside → ℕ → Type 0
+Deserves c before code = IsTold c before → wanted_status c before ≡ code

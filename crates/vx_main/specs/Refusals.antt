@@ -1,0 +1,31 @@
+-- The names of refusals.
+use Rattle.std.specs.Prelude.{ℕ, List, codes}
+use Rattle.vx_footer.specs.declared.error.OpenError.{OpenError}
+use Rattle.vx_footer.specs.declared.error.OpenError.TheVariants as refusals
+use Rattle.vx_footer.specs.declared.error.Which.TheVariants as which
+
+-- the check's name, and in brackets the table that it is about
+abbrev pub refusal_words : OpenError → List ℕ
+refusal_words refusals.TooSmall = codes "TooSmall"
+refusal_words refusals.BadMagic = codes "BadMagic"
+refusal_words refusals.BadVersion = codes "BadVersion"
+refusal_words refusals.PostscriptTooLong = codes "PostscriptTooLong"
+refusal_words refusals.Unsupported = codes "Unsupported"
+refusal_words refusals.TooManyMetadata = codes "TooManyMetadata"
+refusal_words refusals.EmptyKey = codes "EmptyKey"
+refusal_words refusals.LongKey = codes "LongKey"
+refusal_words refusals.DuplicateKey = codes "DuplicateKey"
+refusal_words refusals.BadAlignment = codes "BadAlignment"
+refusal_words refusals.MissingDType = codes "MissingDType"
+refusal_words refusals.BufferTooLong = codes "BufferTooLong"
+refusal_words refusals.OutOfBounds = codes "OutOfBounds"
+refusal_words refusals.StatsCount = codes "StatsCount"
+refusal_words refusals.PastEnd = codes "PastEnd"
+refusal_words refusals.UnknownEncoding = codes "UnknownEncoding"
+refusal_words refusals.Unordered = codes "Unordered"
+refusal_words refusals.OutOfMemory = codes "OutOfMemory"
+refusal_words (refusals.BadTable which.Postscript) = codes "BadTable(Postscript)"
+refusal_words (refusals.BadTable which.DType) = codes "BadTable(DType)"
+refusal_words (refusals.BadTable which.Layout) = codes "BadTable(Layout)"
+refusal_words (refusals.BadTable which.Statistics) = codes "BadTable(Statistics)"
+refusal_words (refusals.BadTable which.Footer) = codes "BadTable(Footer)"

@@ -1,0 +1,67 @@
+-- What a run of the program does.
+use Rattle.std.specs.Prelude.{◌≡◌, ℕ, true, List, Option, Some, None, Result, Ok, Err, ◌⊎◌}
+use Rattle.vx_base.specs.Counts.{Rises}
+use Rattle.vx_base.specs.Openers.{OpenerState}
+use Rattle.vx_base.specs.Streams.{SinkState, SourceState, Took, TookPrefix}
+use Rattle.vx_main.specs.declared.answer.Answer.{Answer}
+use Rattle.vx_main.specs.declared.command.Command.{Command}
+use Rattle.vx_main.specs.declared.failure.Failure.{Failure}
+use Rattle.vx_main.specs.declared.failure.Failure.TheVariants as failures
+use Rattle.vx_main.specs.Failures.{HasCause, status_of, message_of}
+use Rattle.vx_main.specs.Outputs.{IsAnswer, text_of, Deserves}
+use Rattle.vx_main.specs.Outside.{Outside}
+
+-- ---- the answer of a command
+
+-- an answer is the command's, and status 0 is what it deserves
+pub record Given (c : Command) (before now : Outside) (answer : Answer) : Type 0 where
+  pub is : IsAnswer c before now answer
+  pub deserved : Deserves c before 0
+
+abbrev pub Answers : Command → Outside → Outside → Result Answer Failure → Type 0
+Answers c before now (Ok answer) = Given c before now answer
+Answers c before now (Err failure) = HasCause c before now failure
+
+-- a command was answered over its input and the files, whatever the output is
+pub record Gathers (c : Command) (source source_now : SourceState) (files files_now : OpenerState) (result : Result Answer Failure) : Type 0 where
+  pub each : (out : SinkState) → Answers c (record { source = source; files = files; out = out })
+      (record { source = source_now; files = files_now; out = out }) result
+
+-- ---- printing
+
+-- the text of the command's answer was written whole and flushed
+pub record Prints (c : Command) (before now : Outside) : Type 0 where
+  pub answer : Answer
+  pub given : Given c before now answer
+  pub took : Took (text_of answer) before.out.gained now.out.gained
+  pub flushed : now.out.is_flushed ≡ true
+
+-- words that are no command touch nothing
+abbrev pub Performs : Option Command → Outside → Outside → Result (Unit {0}) Failure → Type 0
+Performs None before now result = (result ≡ Err failures.Usage) × (now ≡ before)
+Performs (Some c) before now (Ok _) = Prints c before now
+Performs (Some c) before now (Err failure) = HasCause c before now failure
+
+-- ---- a run
+
+-- a line was written whole, or a prefix of it where a call of the stream failed or found no memory
+abbrev pub Reports : List ℕ → SinkState → SinkState → Type 0
+Reports text before now = Took text before.gained now.gained ⊎
+    (TookPrefix text before.gained now.gained × (Rises 1 before.faults now.faults ⊎ Rises 1 before.memory_faults now.memory_faults))
+
+-- a failure has its status, and its line stands on the error stream
+pub record Fails (failure : Failure) (err err_now : SinkState) (code : ℕ) : Type 0 where
+  pub status : code ≡ status_of failure
+  pub reported : Reports (message_of failure) err err_now
+
+-- status 0 and nothing on the error stream, or a failure with its status and line
+abbrev pub Concludes : Result (Unit {0}) Failure → SinkState → SinkState → ℕ → Type 0
+Concludes (Ok _) err err_now code = (code ≡ 0) × (err_now ≡ err)
+Concludes (Err failure) err err_now code = Fails failure err err_now code
+
+-- A run of the program: the command that the words ask for was performed, or has a failure with its cause,
+-- and the status and the error stream are those of it.
+pub record Runs (command : Option Command) (before now : Outside) (err err_now : SinkState) (code : ℕ) : Type 0 where
+  pub result : Result (Unit {0}) Failure
+  pub performs : Performs command before now result
+  pub concludes : Concludes result err err_now code

@@ -1,0 +1,105 @@
+-- What serving the file of a name by a script gives.
+use Rattle.std.specs.Prelude.{◌≡◌, ℕ, true, false, List, [], ◌∷◌, ◌++◌, length, Option, Some, None, Result, Ok, Err, ◌⊎◌}
+use Rattle.std.specs.Option.{option_map}
+use Rattle.vx_base.specs.Asking.{Log}
+use Rattle.vx_base.specs.Counts.{Rises}
+use Rattle.vx_base.specs.Openers.{OpenerState, Returned, AsksFor}
+use Rattle.vx_base.specs.Readers.{ReaderState}
+use Rattle.vx_footer.specs.declared.error.OpenError.{OpenError}
+use Rattle.vx_footer.specs.Opening.{vx_grammar}
+use Rattle.vx_sched.specs.declared.fault.Fault.{Fault}
+use Rattle.vx_sched.specs.declared.fault.Place.TheVariants.{Range}
+use Rattle.vx_sched.specs.Outcomes.{size_fault}
+use Rattle.vx_file.specs.declared.step.Step.{Step}
+use Rattle.vx_file.specs.declared.served.Served.{Served}
+use Rattle.vx_file.specs.Fits.{Fits}
+use Rattle.vx_file.specs.Ranges.{tail_ranges, opened}
+use Rattle.vx_file.specs.Serving.{ServedFrom, RefusedFrom, SizeFault, TailFault, asked, world_of, faulty}
+use Rattle.vx_file.specs.Turns.{bad_replies}
+use Rattle.vx_main.specs.declared.failure.Failure.{Failure}
+use Rattle.vx_main.specs.declared.failure.Failure.TheVariants as failures
+
+-- ---- by a reader
+
+abbrev pub ReaderCause : List ℕ → List Step → ReaderState → ReaderState → Result Served Failure → Type 0
+ReaderCause file script before now (Ok served) = ServedFrom file script before now served
+ReaderCause file script before now (Err (failures.Read fault)) = SizeFault before now fault ⊎ TailFault file before now fault
+ReaderCause file script before now (Err (failures.Refused refusal)) = RefusedFrom file before now refusal
+ReaderCause file script before now (Err failures.OutOfMemory) = Unit {0}
+ReaderCause file script before now (Err _) = ⊥
+
+abbrev pub ReaderFault : ReaderState → ReaderState → Result Served Failure → Type 0
+ReaderFault before now (Ok served) = Unit {0}
+ReaderFault before now (Err (failures.Read fault)) = Rises 1 before.faults now.faults
+ReaderFault before now (Err (failures.Refused refusal)) = Unit {0}
+ReaderFault before now (Err failures.OutOfMemory) = Unit {0}
+ReaderFault before now (Err _) = ⊥
+
+-- ---- by a name
+
+-- one reader was taken back, which had been asked exactly for these ranges
+pub record GivesBack (name : List ℕ) (before now : OpenerState) (ranges : Log) : Type 0 where
+  pub log : Option Log
+  pub returned : now.returned ≡ option_map (λ all. all ++ record { name = name; log = log } ∷ []) before.returned
+  pub asked : (all : List Returned) → before.returned ≡ Some all → log ≡ Some ranges
+
+-- A script was served from the file of a name: the footer is that of the grammar, the replies fit the
+-- script, one for each step, and the reader had been asked exactly for the ranges of opening and of the
+-- drives.
+pub record ServesFile (file name : List ℕ) (script : List Step) (before now : OpenerState) (served : Served) : Type 0 where
+  pub footer : vx_grammar file None ≡ Ok served.footer.content
+  pub opening : served.opening ≡ tail_ranges file
+  pub fits : Fits (world_of file served.footer.content) [] script served.replies
+  pub back : GivesBack name before now (asked served)
+  pub bad : Rises (bad_replies served.replies) before.read_faults now.read_faults
+
+-- the first check that the file fails has this name, and the reader had been asked for the opening ranges alone
+pub record RefusesFile (file name : List ℕ) (refusal : OpenError) (before now : OpenerState) : Type 0 where
+  pub fails : vx_grammar file None ≡ Err refusal
+  pub back : GivesBack name before now (opened (tail_ranges file))
+
+-- the size could not be had, and the reader had been asked for no range
+pub record LacksSize (name : List ℕ) (fault : Fault) (before now : OpenerState) : Type 0 where
+  pub is : fault ≡ size_fault
+  pub back : GivesBack name before now []
+
+-- an opening range could not be read, which the fault names: those before it got their bytes
+pub record LacksTail (file name : List ℕ) (fault : Fault) (before now : OpenerState) : Type 0 where
+  pub front : List (ℕ × ℕ)
+  pub range : ℕ × ℕ
+  pub rest : List (ℕ × ℕ)
+  pub ranges : tail_ranges file ≡ front ++ range ∷ rest
+  pub place : fault.place ≡ Range range.0 range.1
+  pub back : GivesBack name before now (opened front ++ faulty range fault ∷ [])
+
+-- one reader was taken back
+pub record GaveBack (name : List ℕ) (before now : OpenerState) : Type 0 where
+  pub log : Option Log
+  pub returned : now.returned ≡ option_map (λ all. all ++ record { name = name; log = log } ∷ []) before.returned
+
+-- nothing was asked of an opener
+pub record AsksNothing (before now : OpenerState) : Type 0 where
+  pub asked : now.asked ≡ before.asked
+  pub returned : now.returned ≡ before.returned
+
+-- the name was asked for, and a reader that was opened was taken back, or a call of the opener found no memory
+pub record AskedAndBack (name : List ℕ) (before now : OpenerState) : Type 0 where
+  pub asked : AsksFor name before now
+  pub back : GaveBack name before now ⊎ Rises 1 before.memory_faults now.memory_faults
+
+-- what stands after want of memory: the name was asked for once or not at all
+abbrev pub LeavesOpener : List ℕ → OpenerState → OpenerState → Type 0
+LeavesOpener name before now = AsksNothing before now ⊎ AskedAndBack name before now
+
+-- what serving the file of a name gave has its cause
+abbrev pub FileCause : List ℕ → List Step → OpenerState → OpenerState → Result Served Failure → Type 0
+FileCause name script before now (Ok served) = AsksFor name before now × GaveBack name before now ×
+    ((file : List ℕ) → before.file name ≡ Some file → ServesFile file name script before now served)
+FileCause name script before now (Err (failures.Open opened)) = (opened ≡ name) × AsksFor name before now × Rises 1 before.faults now.faults
+FileCause name script before now (Err (failures.Read fault)) =
+    AsksFor name before now × GaveBack name before now × Rises 1 before.read_faults now.read_faults ×
+    ((file : List ℕ) → before.file name ≡ Some file → LacksSize name fault before now ⊎ LacksTail file name fault before now)
+FileCause name script before now (Err (failures.Refused refusal)) = AsksFor name before now × GaveBack name before now ×
+    ((file : List ℕ) → before.file name ≡ Some file → RefusesFile file name refusal before now)
+FileCause name script before now (Err failures.OutOfMemory) = LeavesOpener name before now
+FileCause name script before now (Err _) = ⊥

@@ -1,0 +1,112 @@
+//! Words and numbers, hex and quoted text.
+ghost use Rattle.std.specs.Prelude.{◌≡◌, ◌∷◌, [], ◌++◌, ◌<◌, ◌≤◌, length};
+ghost use Rattle.std.specs.List.{flat_map};
+ghost use Rattle.hex.specs.Hex.{encode_lower};
+ghost use Rattle.vx_data.specs.Texts.{quoted, quoted_byte, is_quote_plain, upper_hex_digit};
+ghost use Rattle.vx_main.specs.Render.{numbers_after, words, line, hex_text};
+ghost use Rattle.vx_main.specs.Text.{Adds};
+
+use crate::text::TextOut;
+use vx_base::Sink;
+
+/// How many bytes are spelled in hex at once.
+const PIECE: usize = 8192;
+
+/// Adds numbers, each after a space.
+pub(crate) fn put_numbers<S: Sink>(numbers: &[u64], text: &mut TextOut, out: &mut S)
+    ensures { Adds (numbers_after numbers.now) text.old (S.state out.old) text.new (S.state out.new) }
+{
+    for number in numbers {
+        text.word(out, b" ");
+        text.number(out, *number);
+    }
+}
+
+/// Adds a word and numbers behind it.
+pub(crate) fn put_words<S: Sink>(head: &[u8], numbers: &[u64], text: &mut TextOut, out: &mut S)
+    ensures { Adds (words head.now numbers.now) text.old (S.state out.old) text.new (S.state out.new) }
+{
+    text.word(out, head);
+    put_numbers(numbers, text, out);
+}
+
+/// Adds a line of a word and numbers.
+pub(crate) fn put_line<S: Sink>(head: &[u8], numbers: &[u64], text: &mut TextOut, out: &mut S)
+    ensures { Adds (line head.now numbers.now) text.old (S.state out.old) text.new (S.state out.new) }
+{
+    put_words(head, numbers, text, out);
+    text.end_line(out);
+}
+
+/// Adds at most so many bytes as lower case digits.
+fn put_hex_piece<S: Sink>(bytes: &[u8], text: &mut TextOut, out: &mut S)
+    requires { length bytes.now ≤ 8192 }
+    ensures { Adds (encode_lower bytes.now) text.old (S.state out.old) text.new (S.state out.new) }
+{
+    let mut digits = [0u8; 2 * PIECE];
+    let room = &mut digits[..2 * bytes.len()];
+    match hex::encode_to_slice(bytes, room) {
+        Ok(()) => text.word(out, room),
+        Err(_) => unreachable!(),
+    }
+}
+
+/// Adds bytes as lower case digits, `-` for none.
+pub(crate) fn put_hex<S: Sink>(bytes: &[u8], text: &mut TextOut, out: &mut S)
+    ensures { Adds (hex_text bytes.now) text.old (S.state out.old) text.new (S.state out.new) }
+{
+    if bytes.is_empty() {
+        return text.word(out, b"-");
+    }
+    let mut rest = bytes;
+    while !rest.is_empty() {
+        let (piece, behind) = rest.split_at(rest.len().min(PIECE));
+        put_hex_piece(piece, text, out);
+        rest = behind;
+    }
+}
+
+fn is_plain(byte: u8) -> bool
+    ensures { result ≡ is_quote_plain byte }
+{
+    byte.is_ascii_alphanumeric() || byte == b'_' || byte == b'.' || byte == b'-'
+}
+
+/// The upper case digit of a number below 16.
+fn hex_digit(number: u8) -> u8
+    requires { number < 16 }
+    ensures { result ≡ upper_hex_digit number }
+{
+    if number < 10 {
+        b'0' + number
+    } else {
+        b'A' - 10 + number
+    }
+}
+
+fn put_quoted_byte<S: Sink>(byte: u8, text: &mut TextOut, out: &mut S)
+    ensures { Adds (quoted_byte byte) text.old (S.state out.old) text.new (S.state out.new) }
+{
+    if is_plain(byte) {
+        return text.word(out, &[byte]);
+    }
+    text.word(out, &[b'%', hex_digit(byte / 16), hex_digit(byte % 16)]);
+}
+
+fn put_quoted_bytes<S: Sink>(bytes: &[u8], text: &mut TextOut, out: &mut S)
+    ensures { Adds (flat_map quoted_byte bytes.now) text.old (S.state out.old) text.new (S.state out.new) }
+{
+    for byte in bytes {
+        put_quoted_byte(*byte, text, out);
+    }
+}
+
+/// Adds quoted text: one spelling for each text.
+pub(crate) fn put_quoted<S: Sink>(bytes: &[u8], text: &mut TextOut, out: &mut S)
+    ensures { Adds (quoted bytes.now) text.old (S.state out.old) text.new (S.state out.new) }
+{
+    if bytes.is_empty() {
+        return text.word(out, b"%");
+    }
+    put_quoted_bytes(bytes, text, out);
+}

@@ -1,0 +1,36 @@
+//! The names of refusals.
+ghost use Rattle.std.specs.Prelude.{◌≡◌};
+ghost use Rattle.vx_main.specs.Refusals.{refusal_words};
+
+use vx_footer::{OpenError, Which};
+
+/// The name of the opening check that a file fails.
+pub(crate) fn refusal_name(refusal: OpenError) -> &'static str
+    ensures { result.now ≡ refusal_words refusal }
+{
+    match refusal {
+        OpenError::TooSmall => "TooSmall",
+        OpenError::BadMagic => "BadMagic",
+        OpenError::BadVersion => "BadVersion",
+        OpenError::PostscriptTooLong => "PostscriptTooLong",
+        OpenError::Unsupported => "Unsupported",
+        OpenError::TooManyMetadata => "TooManyMetadata",
+        OpenError::EmptyKey => "EmptyKey",
+        OpenError::LongKey => "LongKey",
+        OpenError::DuplicateKey => "DuplicateKey",
+        OpenError::BadAlignment => "BadAlignment",
+        OpenError::MissingDType => "MissingDType",
+        OpenError::BufferTooLong => "BufferTooLong",
+        OpenError::OutOfBounds => "OutOfBounds",
+        OpenError::StatsCount => "StatsCount",
+        OpenError::PastEnd => "PastEnd",
+        OpenError::UnknownEncoding => "UnknownEncoding",
+        OpenError::Unordered => "Unordered",
+        OpenError::OutOfMemory => "OutOfMemory",
+        OpenError::BadTable(Which::Postscript) => "BadTable(Postscript)",
+        OpenError::BadTable(Which::DType) => "BadTable(DType)",
+        OpenError::BadTable(Which::Layout) => "BadTable(Layout)",
+        OpenError::BadTable(Which::Statistics) => "BadTable(Statistics)",
+        OpenError::BadTable(Which::Footer) => "BadTable(Footer)",
+    }
+}

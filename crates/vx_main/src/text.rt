@@ -1,0 +1,112 @@
+//! Writes a text piece by piece through a buffer of fixed size, without memory of its own.
+ghost use Rattle.std.specs.Prelude.{◌≡◌, ◌++◌, ◌∷◌, [], ◌≤◌, ◌*◌, length, codes, decimal, None};
+ghost use Rattle.vx_main.specs.Text.{Adds, Finishes, new_text};
+
+use arrayvec::ArrayVec;
+use itoa::Buffer;
+use std::alloc::Global;
+use std::marker::Model;
+use vx_base::{Sink, SinkError, write_all, write_flushed};
+
+/// How many bytes the buffer has room for.
+const ROOM: usize = 4096;
+
+/// A text on its way to a sink, which each call names. After a write that is refused nothing more is
+/// written, and `finish` gives the error.
+#[derive(Drop)]
+pub(crate) struct TextOut {
+    alloc: Global,
+    held: ArrayVec<u8, ROOM>,
+    failure: Option<SinkError>,
+}
+
+impl Model for TextOut {
+    ghost use Rattle.vx_main.specs.Text.{TextState};
+
+    ghost Value = { TextState };
+
+    ghost view = { λ w. record { held = w.held.items; failure = w.failure } };
+}
+
+impl TextOut {
+    pub(crate) fn new(alloc: Global) -> TextOut
+        ensures { result ≡ new_text }
+    {
+        TextOut {
+            alloc,
+            held: ArrayVec::new(),
+            failure: None,
+        }
+    }
+
+    /// Hands bytes to the sink, behind an empty buffer.
+    #[tactic(auto, using(crate::proofs::TextLemmas::adds_stopped, crate::proofs::TextLemmas::passes_ok, crate::proofs::TextLemmas::passes_err))]
+    fn pass<S: Sink>(&mut self, out: &mut S, bytes: &[u8])
+        requires { self.old.held ≡ [] }
+        ensures adds { Adds bytes.now self.old (S.state out.old) self.new (S.state out.new) }
+        ensures held { self.new.held ≡ [] }
+    {
+        if self.failure.is_some() {
+            return;
+        }
+        match write_all(self.alloc, out, bytes) {
+            Ok(()) => {}
+            Err(error) => self.failure = Some(error),
+        }
+    }
+
+    /// Hands what is held to the sink.
+    #[tactic(auto, using(crate::proofs::TextLemmas::adds_stopped, crate::proofs::TextLemmas::adds_taken))]
+    fn send<S: Sink>(&mut self, out: &mut S)
+        ensures adds { Adds [] self.old (S.state out.old) self.new (S.state out.new) }
+        ensures held { self.new.held ≡ [] }
+    {
+        if self.failure.is_some() {
+            self.held.clear();
+            return;
+        }
+        let held = self.held.take();
+        self.pass(out, held.as_slice());
+    }
+
+    /// Adds bytes.
+    #[tactic(auto, using(crate::proofs::TextLemmas::adds_then, crate::proofs::TextLemmas::adds_nothing, crate::proofs::TextLemmas::adds_held, crate::proofs::TextLemmas::adds_later))]
+    pub(crate) fn word<S: Sink>(&mut self, out: &mut S, bytes: &[u8])
+        ensures { Adds bytes.now self.old (S.state out.old) self.new (S.state out.new) }
+    {
+        if self.held.try_extend_from_slice(bytes).is_ok() {
+            return;
+        }
+        self.send(out);
+        if self.held.try_extend_from_slice(bytes).is_ok() {
+            return;
+        }
+        self.pass(out, bytes);
+    }
+
+    /// Adds the digits of a number.
+    pub(crate) fn number<S: Sink>(&mut self, out: &mut S, number: u64)
+        ensures { Adds (decimal number) self.old (S.state out.old) self.new (S.state out.new) }
+    {
+        let mut digits = Buffer::new();
+        self.word(out, digits.format(number).as_bytes());
+    }
+
+    /// Ends a line.
+    pub(crate) fn end_line<S: Sink>(&mut self, out: &mut S)
+        ensures { Adds (10 ∷ []) self.old (S.state out.old) self.new (S.state out.new) }
+    {
+        self.word(out, b"\n");
+    }
+
+    /// Writes what is held, and flushes.
+    #[tactic(auto, using(crate::proofs::TextLemmas::ends_broken, crate::proofs::TextLemmas::ends_with))]
+    pub(crate) fn finish<S: Sink>(self, out: &mut S) -> Result<(), SinkError>
+        ensures { Finishes self (S.state out.old) (S.state out.new) result }
+    {
+        match self.failure {
+            Some(error) => Err(error),
+            None => write_flushed(self.alloc, out, self.held.as_slice()),
+        }
+    }
+}

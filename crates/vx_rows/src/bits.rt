@@ -1,0 +1,146 @@
+//! Truth values in a bitmap.
+ghost use Rattle.std.specs.Prelude.{◌≡◌, ◌+◌, ◌*◌, ◌<◌, ◌≤◌, ◌^◌, length, slice_index_or, true, false, IfOk};
+ghost use Rattle.vx_rows.specs.Span.{span, every};
+ghost use Rattle.vx_rows.specs.Bits.{bit, bit_value, bitmap_byte, bitmap_size, bitmap};
+
+use std::alloc::{AllocError, Global};
+use std::marker::Model;
+use vx_base::{Alignment, ByteBuffer};
+
+/// Truth values, each a bit of a bitmap that is shared.
+#[derive(Drop)]
+pub struct Bits {
+    held: ByteBuffer,
+    at: usize,
+    first: usize,
+    count: usize,
+}
+
+impl Model for Bits {
+    ghost use Rattle.std.specs.Prelude.{List, Bool, ◌+◌, ◌*◌, ◌<◌, ◌≤◌, ◌^◌, length};
+    ghost use Rattle.vx_rows.specs.Span.{span};
+    ghost use Rattle.vx_rows.specs.Bits.{bit};
+
+    ghost Value = { List Bool };
+
+    ghost view = { λ b. span (bit b.held.bytes b.at) b.first b.count };
+
+    ghost invariant = { λ b. (8 * b.at + b.first + b.count ≤ 8 * length b.held.bytes) × (b.first + b.count < 2 ^ 64) };
+}
+
+/// Bit i of the bitmap at a byte.
+#[inline(always)]
+pub fn bit_of(bytes: &[u8], at: usize, i: usize) -> bool
+    requires { 8 * at + i < 8 * length bytes.now }
+    ensures { result ≡ bit bytes.now at i }
+{
+    (bytes[at + i / 8] >> (i % 8)) & 1 == 1
+}
+
+/// Whether so many bits of a bitmap are all set.
+#[tactic(auto, using(crate::proofs::SpanLemmas::every_step))]
+pub fn are_set(bytes: &[u8], at: usize, count: usize) -> bool
+    requires { 8 * at + count ≤ 8 * length bytes.now }
+    ensures { result ≡ every (bit bytes.now at) 0 count }
+{
+    for i in 0..count {
+        if !bit_of(bytes, at, i) {
+            return false;
+        }
+    }
+    true
+}
+
+/// The value of a bit: 1 where a row is true.
+fn value_of(rows: &[bool], row: usize) -> u8
+    ensures { result ≡ bit_value rows.now row }
+{
+    match rows.get(row) {
+        Some(true) => 1,
+        _ => 0,
+    }
+}
+
+/// A byte of the bitmap of rows.
+fn byte_of(rows: &[bool], k: usize) -> u8
+    requires { 8 * k + 7 < 2 ^ 64 }
+    ensures { result ≡ bitmap_byte rows.now k }
+{
+    let first = 8 * k;
+    let low = value_of(rows, first)
+        + 2 * value_of(rows, first + 1)
+        + 4 * value_of(rows, first + 2)
+        + 8 * value_of(rows, first + 3);
+    low + 16 * value_of(rows, first + 4)
+        + 32 * value_of(rows, first + 5)
+        + 64 * value_of(rows, first + 6)
+        + 128 * value_of(rows, first + 7)
+}
+
+/// How many bytes a bitmap of so many rows has.
+pub fn bitmap_len(rows: usize) -> usize
+    ensures { result ≡ bitmap_size rows }
+{
+    rows / 8 + (rows % 8 + 7) / 8
+}
+
+/// The bitmap of rows.
+#[tactic(auto, using(crate::proofs::SpanLemmas::span_push))]
+pub fn bitmap_of(alloc: Global, rows: &[bool]) -> Result<Vec<u8>, AllocError>
+    ensures { IfOk result (λ bytes. bytes.items ≡ bitmap rows.now) }
+{
+    let mut bytes = Vec::new(alloc);
+    for k in 0..bitmap_len(rows.len()) {
+        bytes.push(byte_of(rows, k))?;
+    }
+    Ok(bytes)
+}
+
+impl Bits {
+    /// Truth values of their own. Only memory refuses.
+    #[tactic(auto, using(crate::proofs::BitmapLemmas::bitmap_read, crate::proofs::SpanLemmas::length_span))]
+    pub fn from_rows(alloc: Global, rows: &[bool]) -> Result<Bits, AllocError>
+        ensures { IfOk result (λ bits. bits ≡ rows.now) }
+    {
+        let held = ByteBuffer::from_vec(alloc, bitmap_of(alloc, rows)?, Alignment::none())?;
+        let bits = Bits::new(alloc, &held, 0, rows.len())?;
+        Ok(bits)
+    }
+
+    /// So many bits of the bitmap at a byte. Only memory refuses.
+    pub(crate) fn new(
+        alloc: Global,
+        held: &ByteBuffer,
+        at: usize,
+        count: usize,
+    ) -> Result<Bits, AllocError>
+        requires { 8 * at + count ≤ 8 * length held.now.bytes }
+        ensures { IfOk result (λ bits. bits ≡ span (bit held.now.bytes at) 0 count) }
+    {
+        Ok(Bits {
+            held: held.share(alloc)?,
+            at,
+            first: 0,
+            count,
+        })
+    }
+
+    /// The number of rows.
+    #[inline(always)]
+    #[tactic(auto, using(crate::proofs::SpanLemmas::length_span))]
+    pub fn len(&self) -> usize
+        ensures { result ≡ length self.now }
+    {
+        self.count
+    }
+
+    /// The truth value of a row.
+    #[inline(always)]
+    #[tactic(auto, using(crate::proofs::SpanLemmas::length_span, crate::proofs::SpanLemmas::get_or_span))]
+    pub fn get(&self, row: usize) -> bool
+        requires { row < length self.now }
+        ensures { result ≡ slice_index_or self.now row true }
+    {
+        bit_of(self.held.as_slice(), self.at, self.first + row)
+    }
+}

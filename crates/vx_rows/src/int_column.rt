@@ -1,0 +1,264 @@
+//! Columns of integers.
+ghost use Rattle.std.specs.Prelude.{◌≡◌, ◌+◌, ◌*◌, ◌<◌, ◌≤◌, ◌==◌, ◌^◌, length, slice_index_or, is_some, IsSome, IfOk, IfSome, Some, None, true, take, drop, pos};
+ghost use Rattle.std.specs.Int.{w8, w16, w32, w64, from_le_bytes, cast_signed};
+ghost use Rattle.vx_rows.specs.Span.{span};
+ghost use Rattle.vx_rows.specs.Bits.{present_at};
+ghost use Rattle.vx_rows.specs.Columns.{value_size, value_place, raw_at, value_of, int_row};
+
+use crate::Bits;
+use std::alloc::{AllocError, Global};
+use std::marker::Model;
+use vx_base::ByteBuffer;
+use vx_data::PType;
+
+/// Integers of a type, some of which may be null. Their bytes are shared.
+#[derive(Drop)]
+pub struct IntColumn {
+    kind: PType,
+    may_be_null: bool,
+    count: usize,
+    present: Option<Bits>,
+    held: ByteBuffer,
+    at: usize,
+}
+
+impl Model for IntColumn {
+    ghost use Rattle.std.specs.Prelude.{◌≡◌, ◌≤◌, length, IfSome};
+    ghost use Rattle.vx_rows.specs.Span.{span};
+    ghost use Rattle.vx_rows.specs.Columns.{Ints, value_place, int_row};
+
+    ghost Value = { Ints };
+
+    ghost view = { λ c. record {
+      ptype = c.kind;
+      nullable = c.may_be_null;
+      rows = span (int_row c.kind c.present c.held.bytes c.at) 0 c.count;
+    } };
+
+    ghost invariant = { λ c. (value_place c.kind c.at c.count ≤ length c.held.bytes) × IfSome c.present (λ bits. length bits ≡ c.count) };
+}
+
+/// How many bytes a value of a type has.
+#[inline(always)]
+pub fn size_of(ptype: PType) -> usize
+    ensures { result ≡ value_size ptype }
+{
+    match ptype {
+        PType::U8 | PType::I8 => 1,
+        PType::U16 | PType::I16 => 2,
+        PType::U32 | PType::I32 => 4,
+        PType::U64 | PType::I64 => 8,
+    }
+}
+
+/// Where the value of a row begins.
+#[inline(always)]
+pub fn place_of(ptype: PType, at: usize, row: usize) -> usize
+    requires { value_place ptype at row < 2 ^ 64 }
+    ensures { result ≡ value_place ptype at row }
+{
+    match ptype {
+        PType::U8 | PType::I8 => at + row,
+        PType::U16 | PType::I16 => at + 2 * row,
+        PType::U32 | PType::I32 => at + 4 * row,
+        PType::U64 | PType::I64 => at + 8 * row,
+    }
+}
+
+#[inline(always)]
+fn u8_at(bytes: &[u8], at: usize) -> u8
+    requires { at + 1 ≤ length bytes.now }
+    ensures { result ≡ from_le_bytes w8 (take 1 (drop at bytes.now)) }
+{
+    let cells = &bytes[at..at + 1];
+    u8::from_le_bytes([cells[0]])
+}
+
+#[inline(always)]
+pub fn u16_at(bytes: &[u8], at: usize) -> u16
+    requires { at + 2 ≤ length bytes.now }
+    ensures { result ≡ from_le_bytes w16 (take 2 (drop at bytes.now)) }
+{
+    let cells = &bytes[at..at + 2];
+    u16::from_le_bytes([cells[0], cells[1]])
+}
+
+#[inline(always)]
+pub fn u32_at(bytes: &[u8], at: usize) -> u32
+    requires { at + 4 ≤ length bytes.now }
+    ensures { result ≡ from_le_bytes w32 (take 4 (drop at bytes.now)) }
+{
+    let cells = &bytes[at..at + 4];
+    u32::from_le_bytes([cells[0], cells[1], cells[2], cells[3]])
+}
+
+#[inline(always)]
+fn u64_at(bytes: &[u8], at: usize) -> u64
+    requires { at + 8 ≤ length bytes.now }
+    ensures { result ≡ from_le_bytes w64 (take 8 (drop at bytes.now)) }
+{
+    let cells = &bytes[at..at + 8];
+    u64::from_le_bytes([
+        cells[0], cells[1], cells[2], cells[3], cells[4], cells[5], cells[6], cells[7],
+    ])
+}
+
+#[inline(always)]
+fn i8_at(bytes: &[u8], at: usize) -> i8
+    requires { at + 1 ≤ length bytes.now }
+    ensures { result ≡ cast_signed w8 (from_le_bytes w8 (take 1 (drop at bytes.now))) }
+{
+    let cells = &bytes[at..at + 1];
+    i8::from_le_bytes([cells[0]])
+}
+
+#[inline(always)]
+fn i16_at(bytes: &[u8], at: usize) -> i16
+    requires { at + 2 ≤ length bytes.now }
+    ensures { result ≡ cast_signed w16 (from_le_bytes w16 (take 2 (drop at bytes.now))) }
+{
+    let cells = &bytes[at..at + 2];
+    i16::from_le_bytes([cells[0], cells[1]])
+}
+
+#[inline(always)]
+fn i32_at(bytes: &[u8], at: usize) -> i32
+    requires { at + 4 ≤ length bytes.now }
+    ensures { result ≡ cast_signed w32 (from_le_bytes w32 (take 4 (drop at bytes.now))) }
+{
+    let cells = &bytes[at..at + 4];
+    i32::from_le_bytes([cells[0], cells[1], cells[2], cells[3]])
+}
+
+#[inline(always)]
+fn i64_at(bytes: &[u8], at: usize) -> i64
+    requires { at + 8 ≤ length bytes.now }
+    ensures { result ≡ cast_signed w64 (from_le_bytes w64 (take 8 (drop at bytes.now))) }
+{
+    let cells = &bytes[at..at + 8];
+    i64::from_le_bytes([
+        cells[0], cells[1], cells[2], cells[3], cells[4], cells[5], cells[6], cells[7],
+    ])
+}
+
+/// The value that begins at a byte.
+#[inline(always)]
+pub fn value_at(ptype: PType, bytes: &[u8], at: usize) -> i128
+    requires { at + value_size ptype ≤ length bytes.now }
+    ensures { result ≡ value_of ptype (raw_at ptype bytes.now at) }
+{
+    match ptype {
+        PType::U8 => i128::from(u8_at(bytes, at)),
+        PType::U16 => i128::from(u16_at(bytes, at)),
+        PType::U32 => i128::from(u32_at(bytes, at)),
+        PType::U64 => i128::from(u64_at(bytes, at)),
+        PType::I8 => i128::from(i8_at(bytes, at)),
+        PType::I16 => i128::from(i16_at(bytes, at)),
+        PType::I32 => i128::from(i32_at(bytes, at)),
+        PType::I64 => i128::from(i64_at(bytes, at)),
+    }
+}
+
+/// Whether the bytes of a value are all 0.
+#[inline(always)]
+pub fn is_zero(ptype: PType, bytes: &[u8], at: usize) -> bool
+    requires { at + value_size ptype ≤ length bytes.now }
+    ensures { result ≡ (raw_at ptype bytes.now at == 0) }
+{
+    match ptype {
+        PType::U8 | PType::I8 => u8_at(bytes, at) == 0,
+        PType::U16 | PType::I16 => u16_at(bytes, at) == 0,
+        PType::U32 | PType::I32 => u32_at(bytes, at) == 0,
+        PType::U64 | PType::I64 => u64_at(bytes, at) == 0,
+    }
+}
+
+/// Whether a row has a value.
+#[inline(always)]
+pub fn has_value(present: &Option<Bits>, row: usize) -> bool
+    requires { IfSome present.now (λ bits. row < length bits) }
+    ensures { result ≡ present_at present.now row }
+{
+    match present {
+        None => true,
+        Some(bits) => bits.get(row),
+    }
+}
+
+impl IntColumn {
+    /// Integers whose values begin at a byte. Only memory refuses.
+    pub(crate) fn new(
+        alloc: Global,
+        kind: PType,
+        may_be_null: bool,
+        present: Option<Bits>,
+        held: &ByteBuffer,
+        at: usize,
+        count: usize,
+    ) -> Result<IntColumn, AllocError>
+        requires inside { value_place kind at count ≤ length held.now.bytes }
+        requires present { IfSome present (λ bits. length bits ≡ count) }
+        ensures { IfOk result (λ c. c ≡ record {
+          ptype = kind;
+          nullable = may_be_null;
+          rows = span (int_row kind present held.now.bytes at) 0 count;
+        }) }
+    {
+        Ok(IntColumn {
+            kind,
+            may_be_null,
+            count,
+            present,
+            held: held.share(alloc)?,
+            at,
+        })
+    }
+
+    /// The type of the integers.
+    #[inline(always)]
+    pub fn ptype(&self) -> PType
+        ensures { result ≡ self.now.ptype }
+    {
+        self.kind
+    }
+
+    /// Whether a row may be null.
+    #[inline(always)]
+    pub fn is_nullable(&self) -> bool
+        ensures { result ≡ self.now.nullable }
+    {
+        self.may_be_null
+    }
+
+    /// The number of rows.
+    #[inline(always)]
+    #[tactic(auto, using(crate::proofs::SpanLemmas::length_span))]
+    pub fn len(&self) -> usize
+        ensures { result ≡ length self.now.rows }
+    {
+        self.count
+    }
+
+    /// Whether a row has a value.
+    #[inline(always)]
+    #[tactic(auto, using(crate::proofs::SpanLemmas::length_span, crate::proofs::SpanLemmas::get_or_span))]
+    pub fn is_present(&self, row: usize) -> bool
+        requires { row < length self.now.rows }
+        ensures { result ≡ is_some (slice_index_or self.now.rows row None) }
+    {
+        has_value(&self.present, row)
+    }
+
+    /// The value of a row that has one.
+    #[inline(always)]
+    #[tactic(auto, using(crate::proofs::SpanLemmas::length_span, crate::proofs::SpanLemmas::get_or_span, crate::proofs::IntLemmas::place_inside))]
+    pub fn int_at(&self, row: usize) -> i128
+        requires inside { row < length self.now.rows }
+        requires here { is_some (slice_index_or self.now.rows row None) ≡ true }
+        ensures { slice_index_or self.now.rows row None ≡ Some result }
+    {
+        let bytes = self.held.as_slice();
+        let place = place_of(self.kind, self.at, row);
+        value_at(self.kind, bytes, place)
+    }
+}

@@ -1,0 +1,33 @@
+//! Columns of rows, the bytes of arrays, and the texts of values.
+#![tactic(auto)]
+
+mod array_error;
+mod array_kind;
+mod bits;
+mod bool_column;
+mod column;
+mod decoding;
+mod int_column;
+mod making;
+mod mask;
+mod presence;
+mod reading;
+mod sharing;
+mod struct_rows;
+mod text_column;
+mod text_reading;
+mod typing;
+
+pub use array_error::ArrayError;
+pub use bits::Bits;
+pub use bool_column::BoolColumn;
+pub use column::{Column, Columns};
+pub use decoding::decode_array;
+pub use int_column::IntColumn;
+pub use mask::Mask;
+pub use sharing::may_be_shared;
+pub use struct_rows::StructRows;
+pub use text_column::TextColumn;
+
+#[cfg(test)]
+mod tests;

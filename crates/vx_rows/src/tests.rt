@@ -1,0 +1,102 @@
+//! Worked rows of the array codec, with ample memory.
+use crate::{ArrayError, Column, Mask, decode_array};
+use std::alloc::Global;
+use std::test::Fail;
+use vx_base::{Alignment, ByteBuffer};
+use vx_data::{DType, Fields, PType};
+
+// The ids of a file, in order.
+fn ids(alloc: Global) -> Result<Vec<String>, Fail> {
+    let mut ids = Vec::new(alloc);
+    ids.push(String::from_str(alloc, "vortex.bool")?)?;
+    ids.push(String::from_str(alloc, "vortex.primitive")?)?;
+    ids.push(String::from_str(alloc, "vortex.other")?)?;
+    ids.push(String::from_str(alloc, "vortex.varbin")?)?;
+    ids.push(String::from_str(alloc, "vortex.struct")?)?;
+    Ok(ids)
+}
+
+// The column of these bytes, or its fault.
+fn decoded(
+    alloc: Global,
+    bytes: &[u8],
+    dtype: &DType,
+    rows: u64,
+) -> Result<Result<Column, ArrayError>, Fail> {
+    let held = ByteBuffer::from_vec(alloc, Vec::from_slice(alloc, bytes)?, Alignment::none())?;
+    let ids = ids(alloc)?;
+    Ok(decode_array(alloc, &held, dtype, rows, &ids))
+}
+
+// The fault of these bytes, if there is one.
+fn fault(
+    alloc: Global,
+    bytes: &[u8],
+    dtype: &DType,
+    rows: u64,
+) -> Result<Option<ArrayError>, Fail> {
+    match decoded(alloc, bytes, dtype, rows)? {
+        Ok(_) => Ok(None),
+        Err(error) => Ok(Some(error)),
+    }
+}
+
+#[test]
+fn faults_come_in_reading_order(rt: HostRuntime) -> Result<(), Fail> {
+    let alloc = rt.alloc();
+    let flags = DType::Bool(false);
+    let small = DType::Int(PType::U8, true);
+    let words = DType::Text(false);
+    let bad = Some(ArrayError::BadArray);
+    assert!(rt; fault(alloc, b"\x00\x00\x05", &flags, 3)?.is_none());
+    assert!(rt; fault(alloc, b"\x00\x00\x0d", &flags, 3)? == bad);
+    assert!(rt; fault(alloc, b"\x01\x00\x01\x01\x05\x00", &small, 2)?.is_none());
+    assert!(rt; fault(alloc, b"\x01\x00\x01\x01\x05\x00\x00\x00", &small, 2)? == bad);
+    assert!(rt; fault(alloc, b"\x01\x00\x01\x03\x05\x00", &small, 2)? == bad);
+    assert!(rt; fault(alloc, b"\x01\x00\x01\x01\x05\x01", &small, 2)? == bad);
+    assert!(rt; fault(alloc, b"\x02\x00\x01", &small, 2)? == Some(ArrayError::UnknownEncoding));
+    assert!(rt; fault(alloc, b"\x05\x00\x00", &small, 0)? == bad);
+    assert!(rt; fault(alloc, b"\x03\x00\x01\x00\x00\x00\xff", &words, 1)? == bad);
+    Ok(())
+}
+
+// The texts of a struct's first field: of two rows, with a dot between.
+fn first_texts(alloc: Global, column: &Column) -> Result<String, Fail> {
+    let mut text = String::new(alloc);
+    let Some(field) = column.fields().first() else {
+        return Ok(text);
+    };
+    let Column::Text(texts) = &field.1 else {
+        return Ok(text);
+    };
+    for row in 0..texts.len() {
+        if texts.is_present(row) {
+            text.push_str(texts.text_at(row))?;
+        }
+        text.push_str(".")?;
+    }
+    Ok(text)
+}
+
+#[test]
+fn values_are_read(rt: HostRuntime) -> Result<(), Fail> {
+    let alloc = rt.alloc();
+    let mut fields = Vec::new(alloc);
+    fields.push((String::from_str(alloc, "a")?, DType::Text(true)))?;
+    let pairs = DType::Struct(Fields::new(fields), false);
+    let bytes = b"\x04\x00\x03\x00\x01\x02\x00\x00\x00\x00\x02\x00\x00\x00hi";
+    let column = match decoded(alloc, bytes, &pairs, 2)? {
+        Ok(column) => column,
+        Err(_) => return Err(Fail::from("refused")),
+    };
+    assert!(rt; column.len() == 2);
+    assert!(rt; first_texts(alloc, &column)?.as_str() == ".hi.");
+    Ok(())
+}
+
+#[test]
+fn a_mask_keeps_its_bits(rt: HostRuntime) -> Result<(), Fail> {
+    let mask = Mask::new(vec![in rt.alloc(); true, false]?);
+    assert!(rt; mask.len() == 2 && mask.get(0) && !mask.get(1));
+    Ok(())
+}

@@ -1,0 +1,125 @@
+//! Columns of texts.
+ghost use Rattle.std.specs.Prelude.{◌≡◌, ◌+◌, ◌<◌, ◌≤◌, ◌^◌, length, slice_index, slice_index_or, slice_range, is_some, IfOk, IfSome, Some, None, true, option_map};
+ghost use Rattle.std.specs.Str.{IsUtf8};
+ghost use Rattle.vx_rows.specs.Span.{span};
+ghost use Rattle.vx_rows.specs.Columns.{text_row, AreRanges, AreTexts};
+
+use crate::Bits;
+use crate::int_column::has_value;
+use std::alloc::{AllocError, Global};
+use std::marker::Model;
+use vx_base::ByteBuffer;
+
+/// Texts, some of which may be null. Their bytes are shared, and were checked once.
+#[derive(Drop)]
+pub struct TextColumn {
+    may_be_null: bool,
+    count: usize,
+    present: Option<Bits>,
+    held: ByteBuffer,
+    places: Vec<usize>,
+}
+
+impl Model for TextColumn {
+    ghost use Rattle.std.specs.Prelude.{◌≡◌, ◌+◌, length, IfSome};
+    ghost use Rattle.vx_rows.specs.Span.{span};
+    ghost use Rattle.vx_rows.specs.Columns.{Texts, text_row, AreRanges, AreTexts};
+
+    ghost Value = { Texts };
+
+    ghost view = { λ c. record { nullable = c.may_be_null; rows = span (text_row c.present c.held.bytes c.places.items) 0 c.count } };
+
+    ghost invariant = { λ c. (length c.places.items ≡ c.count + 1) × IfSome c.present (λ bits. length bits ≡ c.count)
+        × AreRanges c.held.bytes c.places.items c.count × AreTexts c.held.bytes c.places.items c.count };
+}
+
+/// Bytes that are a text, as one.
+#[inline(always)]
+fn text_of(bytes: &[u8]) -> &str
+    requires { IsUtf8 bytes.now }
+    ensures { result.now ≡ bytes.now }
+{
+    unsafe { str::from_utf8_unchecked(bytes) }
+}
+
+/// The text between the place of a row and the next.
+#[inline(always)]
+fn text_between<'a>(bytes: &'a [u8], places: &[usize], rows: usize, row: usize) -> &'a str
+    requires long { length places.now ≡ rows + 1 }
+    requires less { row < rows }
+    requires ranges { AreRanges bytes.now places.now rows }
+    requires texts { AreTexts bytes.now places.now rows }
+    ensures { result.now ≡ slice_range bytes.now (slice_index places.now row) (slice_index places.now (row + 1)) }
+{
+    let from = places[row];
+    let to = places[row + 1];
+    text_of(&bytes[from..to])
+}
+
+impl TextColumn {
+    /// Texts between places. Only memory refuses.
+    pub(crate) fn new(
+        alloc: Global,
+        may_be_null: bool,
+        present: Option<Bits>,
+        held: &ByteBuffer,
+        places: Vec<usize>,
+        count: usize,
+    ) -> Result<TextColumn, AllocError>
+        requires long { length places.items ≡ count + 1 }
+        requires present { IfSome present (λ bits. length bits ≡ count) }
+        requires ranges { AreRanges held.now.bytes places.items count }
+        requires texts { AreTexts held.now.bytes places.items count }
+        ensures { IfOk result (λ c. c ≡ record {
+          nullable = may_be_null;
+          rows = span (text_row present held.now.bytes places.items) 0 count;
+        }) }
+    {
+        Ok(TextColumn {
+            may_be_null,
+            count,
+            present,
+            held: held.share(alloc)?,
+            places,
+        })
+    }
+
+    /// Whether a row may be null.
+    #[inline(always)]
+    pub fn is_nullable(&self) -> bool
+        ensures { result ≡ self.now.nullable }
+    {
+        self.may_be_null
+    }
+
+    /// The number of rows.
+    #[inline(always)]
+    #[tactic(auto, using(crate::proofs::SpanLemmas::length_span))]
+    pub fn len(&self) -> usize
+        ensures { result ≡ length self.now.rows }
+    {
+        self.count
+    }
+
+    /// Whether a row has a value.
+    #[inline(always)]
+    #[tactic(auto, using(crate::proofs::SpanLemmas::length_span, crate::proofs::SpanLemmas::get_or_span))]
+    pub fn is_present(&self, row: usize) -> bool
+        requires { row < length self.now.rows }
+        ensures { result ≡ is_some (slice_index_or self.now.rows row None) }
+    {
+        has_value(&self.present, row)
+    }
+
+    /// The value of a row that has one.
+    #[inline(always)]
+    #[tactic(auto, using(crate::proofs::SpanLemmas::length_span, crate::proofs::SpanLemmas::get_or_span))]
+    pub fn text_at(&self, row: usize) -> &str
+        requires inside { row < length self.now.rows }
+        requires here { is_some (slice_index_or self.now.rows row None) ≡ true }
+        ensures { slice_index_or self.now.rows row None ≡ Some result.now }
+    {
+        let bytes = self.held.as_slice();
+        text_between(bytes, &self.places, self.count, row)
+    }
+}
