@@ -1,3 +1,4 @@
+pub mod Shapes
 pub mod Shared
 pub mod Known
 pub mod Rows

@@ -9,6 +9,9 @@ use Rattle.vx_data.specs.declared.layout_kind.LayoutKind.{LayoutKind}
 use Rattle.vx_data.specs.declared.layout_kind.LayoutKind.TheVariants.{Flat, Chunked, Struct}
 use Rattle.vx_data.specs.declared.layout_row.LayoutRow.{LayoutRow, fold-LayoutRow}
 use Rattle.vx_data.specs.declared.layout_row.LayoutRow.TheOpen.{LayoutRow-F}
+use Rattle.vx_data.specs.declared.segment_ids.SegmentIds.{SegmentIds}
+use Rattle.vx_data.specs.declared.segment_ids.SegmentIds.TheVariants.{One, Listed}
+use Rattle.vx_base.specs.declared.segment.SegmentId.{SegmentId}
 use Rattle.vx_data.specs.declared.data_error.DataError.{DataError}
 use Rattle.vx_data.specs.declared.data_error.DataError.TheVariants.{BadTable, UnknownEncoding}
 use Rattle.vx_base.specs.Checks.{◌>>=◌ as ◌passes◌, ◌unless◌, ◌lacking◌}
@@ -34,8 +37,12 @@ abbrev pub rows_count : Rows → ℕ
 rows_count no_rows = 0
 rows_count (a_row r rs) = suc (rows_count rs)
 
+abbrev pub ids_in : SegmentIds → List SegmentId
+ids_in (One id) = id ∷ []
+ids_in (Listed ids) = ids.items
+
 abbrev pub row_step : LayoutRow-F Row → Row
-row_step f = row f.encoding f.row_count (numbers_of f.segments.items) (rows_list f.children.items)
+row_step f = row f.encoding f.row_count (numbers_of (ids_in f.segments)) (rows_list f.children.items)
 
 abbrev pub row_view : LayoutRow → Row
 row_view = fold-LayoutRow Row row_step

@@ -1,10 +1,12 @@
 //! How the rows of a column are laid out in segments.
 ghost use Rattle.std.specs.Prelude.{◌≡◌, ◌<◌, ◌^◌, ◌==◌, [], ◌∷◌, IfOk, length, map, Some, replicate};
+ghost use Rattle.std.specs.Option.{option_to_list};
 ghost use Rattle.vx_data.specs.Dtype.{dtype_view};
 ghost use Rattle.vx_data.specs.Layout.{node, no_layouts, layouts_of, numbers_of, kind_of, dtype_of, rows_of, segments_of, children_of, rows_sum, Fits};
 
 use crate::{DType, LayoutKind};
 use std::alloc::{AllocError, Global};
+use std::array;
 use std::marker::Model;
 use std::sync::Arc;
 use vx_base::SegmentId;
@@ -12,15 +14,17 @@ use vx_base::SegmentId;
 /// How the rows of a column are laid out: a tree that fits the column's type at every node.
 #[derive(Debug, Drop)]
 pub struct Layout {
-    kind: LayoutKind,
     dtype: DType,
     row_count: u64,
-    segments: Vec<SegmentId>,
     children: Arc<Vec<Layout>, Global>,
+    // a flat layout has one, and no other layout has any
+    segment: Option<SegmentId>,
+    kind: LayoutKind,
 }
 
 impl Model for Layout {
     ghost use Rattle.std.specs.Arc.{arc_value};
+    ghost use Rattle.std.specs.Option.{option_to_list};
     ghost use Rattle.std.proofs.Common.{arith};
     ghost use Rattle.vx_data.specs.Dtype.{dtype_view};
     ghost use Rattle.vx_data.specs.Layout.{LayoutTree, node, layouts_of, numbers_of, Fits, tree_size};
@@ -31,9 +35,9 @@ impl Model for Layout {
 
     ghost coded = { tree_code };
 
-    ghost view = { λ a. node a.kind (dtype_view a.dtype) a.row_count (numbers_of a.segments.items) (layouts_of (arc_value a.children).items) };
+    ghost view = { λ a. node a.kind (dtype_view a.dtype) a.row_count (numbers_of (option_to_list a.segment)) (layouts_of (arc_value a.children).items) };
 
-    ghost invariant = { λ a. Fits a.kind (dtype_view a.dtype) a.row_count (numbers_of a.segments.items) (arc_value a.children).items };
+    ghost invariant = { λ a. Fits a.kind (dtype_view a.dtype) a.row_count (numbers_of (option_to_list a.segment)) (arc_value a.children).items };
 
     ghost size = { tree_size };
 
@@ -59,19 +63,19 @@ impl Layout {
         kind: LayoutKind,
         dtype: DType,
         row_count: u64,
-        segments: Vec<SegmentId>,
+        segment: Option<SegmentId>,
         children: Vec<Layout>,
     ) -> Result<Layout, AllocError>
-        requires { Fits kind (dtype_view dtype) row_count (numbers_of segments.items) children.items }
-        ensures { IfOk result (λ layout. layout ≡ node kind (dtype_view dtype) row_count (numbers_of segments.items) (layouts_of children.items)) }
+        requires { Fits kind (dtype_view dtype) row_count (numbers_of (option_to_list segment)) children.items }
+        ensures { IfOk result (λ layout. layout ≡ node kind (dtype_view dtype) row_count (numbers_of (option_to_list segment)) (layouts_of children.items)) }
     {
         let children = Arc::new(alloc, children)?;
         Ok(Layout {
-            kind,
             dtype,
             row_count,
-            segments,
             children,
+            segment,
+            kind,
         })
     }
 
@@ -84,13 +88,12 @@ impl Layout {
     ) -> Result<Layout, AllocError>
         ensures { IfOk result (λ layout. layout ≡ node LayoutKind.Flat (dtype_view dtype) row_count (segment.0 ∷ []) no_layouts) }
     {
-        let segments = vec![in alloc; segment]?;
         Layout::made(
             alloc,
             LayoutKind::Flat,
             dtype,
             row_count,
-            segments,
+            Some(segment),
             Vec::new(alloc),
         )
     }
@@ -102,14 +105,7 @@ impl Layout {
         ensures { IfOk result (λ layout. layout ≡ node LayoutKind.Chunked (dtype_view dtype) (rows_sum children.items) [] (layouts_of children.items)) }
     {
         let rows = sum_of(&children);
-        Layout::made(
-            alloc,
-            LayoutKind::Chunked,
-            dtype,
-            rows,
-            Vec::new(alloc),
-            children,
-        )
+        Layout::made(alloc, LayoutKind::Chunked, dtype, rows, None, children)
     }
 
     /// The layout of the rows of a struct, by its fields.
@@ -122,14 +118,7 @@ impl Layout {
         requires { Fits LayoutKind.Struct (dtype_view dtype) row_count [] children.items }
         ensures { IfOk result (λ layout. layout ≡ node LayoutKind.Struct (dtype_view dtype) row_count [] (layouts_of children.items)) }
     {
-        Layout::made(
-            alloc,
-            LayoutKind::Struct,
-            dtype,
-            row_count,
-            Vec::new(alloc),
-            children,
-        )
+        Layout::made(alloc, LayoutKind::Struct, dtype, row_count, None, children)
     }
 
     /// How the rows are kept.
@@ -157,7 +146,10 @@ impl Layout {
     pub fn segment_ids(&self) -> &[SegmentId]
         ensures { numbers_of result.now ≡ segments_of self.now }
     {
-        self.segments.as_slice()
+        match &self.segment {
+            Some(segment) => array::from_ref(segment),
+            None => &[],
+        }
     }
 
     /// The layouts below.
@@ -182,11 +174,11 @@ impl Layout {
         ensures { IfOk result (λ layout. layout ≡ self.now) }
     {
         Ok(Layout {
-            kind: self.kind,
             dtype: self.dtype.share(alloc)?,
             row_count: self.row_count,
-            segments: self.segments.clone()?,
             children: Arc::try_clone(&self.children)?,
+            segment: self.segment,
+            kind: self.kind,
         })
     }
 }

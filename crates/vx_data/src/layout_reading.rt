@@ -28,7 +28,7 @@ fn fit_all(
     if rows.len() != dtypes.len() {
         return Ok(None);
     }
-    let mut layouts = Vec::new(alloc);
+    let mut layouts = Vec::with_capacity(alloc, rows.len())?;
     for at in 0..rows.len() {
         let dtype = dtypes[at].share(alloc)?;
         let Some(layout) = fit(alloc, kinds, &rows[at], dtype)? else {
@@ -69,7 +69,14 @@ fn fit(
     let kind = kind_at(kinds, row.encoding);
     let dtypes = dtypes_for(alloc, kind, &dtype, row.children.len())?;
     let children = fit_each(alloc, kinds, &row.children, dtypes)?;
-    let layout = shaped(alloc, kind, dtype, row.row_count, &row.segments, children)?;
+    let layout = shaped(
+        alloc,
+        kind,
+        dtype,
+        row.row_count,
+        row.segments.as_slice(),
+        children,
+    )?;
     Ok(layout)
 }
 

@@ -1,7 +1,7 @@
 //! What the children of a layout must be.
-ghost use Rattle.std.specs.Prelude.{◌≡◌, ◌==◌, ◌++◌, IfOk, OnOk, List, ℕ, length, map, Some, replicate};
+ghost use Rattle.std.specs.Prelude.{◌≡◌, ◌==◌, ◌≤◌, ◌++◌, IfOk, OnOk, List, ℕ, length, map, Some, replicate};
 ghost use Rattle.std.specs.List.{list_all};
-ghost use Rattle.std.specs.Option.{option_map};
+ghost use Rattle.std.specs.Option.{option_map, option_to_list};
 ghost use Rattle.vx_data.specs.Dtype.{dtype_view, pairs_view};
 ghost use Rattle.vx_data.specs.Layout.{LayoutTree, numbers_of, dtype_of, rows_of, rows_sum, dtypes_of, validity as validity_of, child_dtypes, has_shape as shape_holds};
 ghost use Rattle.vx_data.specs.LayoutTable.{dtypes_for as dtypes_by, shaped as shaped_by};
@@ -14,7 +14,7 @@ use vx_base::SegmentId;
 fn repeated(alloc: Global, dtype: &DType, count: usize) -> Result<Vec<DType>, AllocError>
     ensures { IfOk result (λ dtypes. map dtype_view dtypes.items ≡ replicate count (dtype_view dtype.now)) }
 {
-    let mut dtypes = Vec::new(alloc);
+    let mut dtypes = Vec::with_capacity(alloc, count)?;
     for at in 0..count {
         dtypes.push(dtype.share(alloc)?)?;
     }
@@ -110,19 +110,31 @@ fn has_shape(kind: LayoutKind, row_count: u64, segments: &[SegmentId], children:
     }
 }
 
+/// The one segment, where there is one.
+fn only_of(segments: &[SegmentId]) -> Option<SegmentId>
+    requires { length segments.now ≤ 1 }
+    ensures { option_to_list result ≡ segments.now }
+{
+    match segments {
+        [segment] => Some(*segment),
+        _ => None,
+    }
+}
+
 /// The layout of these parts, where it has the rows and segments of its kind.
+#[tactic(auto, using(crate::proofs::Shapes::few_segments))]
 pub(crate) fn shaped(
     alloc: Global,
     kind: Option<LayoutKind>,
     dtype: DType,
     row_count: u64,
-    segments: &Vec<SegmentId>,
+    segments: &[SegmentId],
     children: Option<Vec<Layout>>,
 ) -> Result<Option<Layout>, AllocError>
     requires { (k : LayoutKind) (ts : List LayoutTree) → kind ≡ Some k → option_map (λ v. v.items) children ≡ Some ts →
         child_dtypes k (dtype_view dtype) (length ts) ≡ Some (map dtype_of ts) }
     ensures { IfOk result (λ layout. layout
-        ≡ shaped_by kind (dtype_view dtype) row_count (numbers_of segments.now.items) (option_map (λ v. v.items) children)) }
+        ≡ shaped_by kind (dtype_view dtype) row_count (numbers_of segments.now) (option_map (λ v. v.items) children)) }
 {
     let Some(kind) = kind else {
         return Ok(None);
@@ -133,7 +145,7 @@ pub(crate) fn shaped(
     if !has_shape(kind, row_count, segments, &children) {
         return Ok(None);
     }
-    let segments = segments.clone()?;
-    let layout = Layout::made(alloc, kind, dtype, row_count, segments, children)?;
+    let segment = only_of(segments);
+    let layout = Layout::made(alloc, kind, dtype, row_count, segment, children)?;
     Ok(Some(layout))
 }

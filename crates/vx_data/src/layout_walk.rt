@@ -1,25 +1,14 @@
 //! Reads the table of a layout, as it stands.
-ghost use Rattle.std.specs.Prelude.{◌≡◌, suc, map, IfOk};
+ghost use Rattle.std.specs.Prelude.{◌≡◌, suc, map};
 ghost use Rattle.vx_tables.specs.Counted.{within, allowed, each_table};
 ghost use Rattle.vx_tables.specs.Walking.{Walks, Reads};
 ghost use Rattle.vx_data.specs.Layout.{numbers_of};
-ghost use Rattle.vx_data.specs.LayoutTable.{row_view, row_from, row_at, children_in, segments_in, layout_table};
+ghost use Rattle.vx_data.specs.LayoutTable.{ids_in, row_view, row_from, row_at, children_in, segments_in, layout_table};
 
 use crate::layout_row::LayoutRow;
+use crate::segment_ids::SegmentIds;
 use std::alloc::{AllocError, Global};
-use vx_base::SegmentId;
 use vx_tables::{Elements, TableReader, VectorReader, Visits, WalkError};
-
-/// The segments of these numbers.
-fn segment_ids(alloc: Global, numbers: &[u32]) -> Result<Vec<SegmentId>, AllocError>
-    ensures { IfOk result (λ ids. numbers_of ids.items ≡ numbers.now) }
-{
-    let mut ids = Vec::new(alloc);
-    for number in numbers {
-        ids.push(SegmentId(*number))?;
-    }
-    Ok(ids)
-}
 
 /// The segments that a layout names.
 #[tactic(auto, using(vx_tables::proofs::Walk::seen_steps), unfolding(crate::specs::LayoutTable::segments_in))]
@@ -27,15 +16,15 @@ fn read_segments(
     alloc: Global,
     table: &TableReader<'_>,
     visits: &mut Visits,
-) -> Result<Vec<SegmentId>, WalkError>
-    ensures { Walks (λ ids. numbers_of ids.items) result visits.new (within table.now.levels visits.old (segments_in table.now.bytes table.now.table)) }
+) -> Result<SegmentIds, WalkError>
+    ensures { Walks (λ ids. numbers_of (ids_in ids)) result visits.new (within table.now.levels visits.old (segments_in table.now.bytes table.now.table)) }
 {
     match table.field_vector(4, Elements::Numbers(4), visits)? {
         Some(vector) => {
             let numbers = vector.numbers(alloc)?;
-            Ok(segment_ids(alloc, &numbers)?)
+            Ok(SegmentIds::of(alloc, &numbers)?)
         }
-        None => Ok(Vec::new(alloc)),
+        None => Ok(SegmentIds::Listed(Vec::new(alloc))),
     }
 }
 
@@ -44,19 +33,19 @@ fn row_of(
     specs: usize,
     encoding: u16,
     row_count: u64,
-    segments: Vec<SegmentId>,
+    segments: SegmentIds,
     children: Vec<LayoutRow>,
 ) -> Result<LayoutRow, WalkError>
-    ensures { Reads row_view result (row_from specs encoding row_count (numbers_of segments.items) (map row_view children.items)) }
+    ensures { Reads row_view result (row_from specs encoding row_count (numbers_of (ids_in segments)) (map row_view children.items)) }
 {
     if encoding as usize >= specs {
         return Err(WalkError::BadTable);
     }
     Ok(LayoutRow {
-        encoding,
         row_count,
         segments,
         children,
+        encoding,
     })
 }
 

@@ -24,6 +24,7 @@ mod quoted;
 mod read_back;
 mod scalar;
 mod scalar_reading;
+mod segment_ids;
 mod session;
 mod sharing;
 mod stats_entry;

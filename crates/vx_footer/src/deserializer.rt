@@ -223,7 +223,8 @@ impl FooterDeserializer {
 fn joined(alloc: Global, front: &ByteBuffer, behind: &ByteBuffer) -> Result<Vec<u8>, AllocError>
     ensures { IfOk result (λ bytes. bytes.items ≡ front.now.bytes ++ behind.now.bytes) }
 {
-    let mut bytes = Vec::new(alloc);
+    let size = front.len().saturating_add(behind.len());
+    let mut bytes = Vec::with_capacity(alloc, size)?;
     bytes.extend_from_slice(front.as_slice())?;
     bytes.extend_from_slice(behind.as_slice())?;
     Ok(bytes)

@@ -11,7 +11,7 @@ fit-shaped-requires t c = λ k ts is some.
 pub fit-returns : goal.fit-returns
 fit-returns t c =
     let as_many : c.len.result ≡ length c.deref.result.now = cc in
-    c.in_ok-layout.ensures ∙ fit_is _ c.args.row.now _ _ _ _ _ _ c.kind_at-kind.ensures c.deref.ensures.value as_many c.in_ok-dtypes.ensures c.in_ok-children.ensures
+    c.in_ok-layout.ensures ∙ fit_is _ c.args.row.now _ _ _ _ _ _ _ c.kind_at-kind.ensures c.as_slice.ensures c.deref.ensures.value as_many c.in_ok-dtypes.ensures c.in_ok-children.ensures
 
 pub fit_all-returns-then-rows-dtypes : goal.fit_all-returns-then-rows-dtypes
 fit_all-returns-then-rows-dtypes t c = uneven _ _ _ (λ e. omega (arith, c.if-rows-dtypes.true, e))

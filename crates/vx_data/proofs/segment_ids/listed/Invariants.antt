@@ -1,6 +1,6 @@
 use Rattle.std.proofs.Common.{◌≡◌, ◌++◌, drop}
 use Rattle.vx_data.specs.Layout.{numbers_of}
-use Rattle.vx_data.proofs.layout_walk.segment_ids.Given as goal
+use Rattle.vx_data.proofs.segment_ids.listed.Given as goal
 
 -- the numbers so far and those still to come
 abbrev pub invariant-loop-number : goal.invariant-loop-number
