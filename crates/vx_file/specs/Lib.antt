@@ -1,4 +1,5 @@
 pub mod Fits
+pub mod Hints
 pub mod History
 pub mod Kept
 pub mod Logs

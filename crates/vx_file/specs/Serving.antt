@@ -17,6 +17,7 @@ use Rattle.vx_base.specs.Readers.{ReaderState}
 use Rattle.vx_base.specs.declared.answer.Asked.{Asked}
 use Rattle.vx_base.specs.declared.answer.ReadAtRequest.{ReadAtRequest}
 use Rattle.vx_sched.specs.Outcomes.{size_fault}
+use Rattle.vx_file.specs.Hints.{Hints, no_hints}
 use Rattle.vx_file.specs.Ranges.{tail_start, tail_ranges, opening_range, opened}
 use Rattle.vx_file.specs.Logs.{Grew, asked_by}
 use Rattle.vx_file.specs.History.{is_among}
@@ -28,65 +29,66 @@ abbrev pub asked : Served → Log
 asked s = opened s.opening ++ asked_by s.replies
 
 -- what the replies are about
-abbrev pub world_of : List ℕ → FooterContent → World
-world_of file footer = record { file = file; table = segment_table footer; start = tail_start file }
+abbrev pub world_of : Hints → List ℕ → FooterContent → World
+world_of hints file footer = record { file = file; table = segment_table footer; start = tail_start hints file }
 
 -- A script was served from a file: the footer is that of the grammar, the replies fit the script, one
 -- for each step, and the reader was asked exactly for the ranges of opening and of the drives.
-pub record ServedFrom (file : List ℕ) (script : List Step) (before now : ReaderState) (s : Served) : Type 0 where
-  pub footer : vx_grammar file None ≡ Ok s.footer.content
-  pub opening : s.opening ≡ tail_ranges file
-  pub fits : Fits (world_of file s.footer.content) [] script s.replies
+pub record ServedFrom (hints : Hints) (file : List ℕ) (script : List Step) (before now : ReaderState) (s : Served) : Type 0 where
+  pub footer : vx_grammar file hints.dtype ≡ Ok s.footer.content
+  pub opening : s.opening ≡ tail_ranges hints file
+  pub fits : Fits (world_of hints file s.footer.content) [] script s.replies
   pub asked : Grew (asked s) before.log now.log
   pub bad : Rises (bad_replies s.replies) before.faults now.faults
 
 -- a file was refused by the name of the first check that it fails, and the reader was asked for the opening ranges alone
-pub record RefusedFrom (file : List ℕ) (before now : ReaderState) (e : OpenError) : Type 0 where
-  pub fails : vx_grammar file None ≡ Err e
-  pub asked : Grew (opened (tail_ranges file)) before.log now.log
+pub record RefusedFrom (hints : Hints) (file : List ℕ) (before now : ReaderState) (e : OpenError) : Type 0 where
+  pub fails : vx_grammar file hints.dtype ≡ Err e
+  pub asked : Grew (opened (tail_ranges hints file)) before.log now.log
 
 -- a range with the mark of a fault
 abbrev pub faulty : ℕ × ℕ → Fault → Asked
 faulty r fault = record { range = opening_range r; mark = Some fault.kind }
 
--- a fault of the size call, which asks no range
-pub record SizeFault (before now : ReaderState) (fault : Fault) : Type 0 where
+-- a fault of the size call, which asks no range and is made where no size is supplied
+pub record SizeFault (hints : Hints) (before now : ReaderState) (fault : Fault) : Type 0 where
+  pub unknown : hints.size ≡ None
   pub is : fault ≡ size_fault
   pub asked : Grew [] before.log now.log
 
 -- a fault of an opening range, with its mark: those before it got their bytes
-pub record TailFault (file : List ℕ) (before now : ReaderState) (fault : Fault) : Type 0 where
+pub record TailFault (hints : Hints) (file : List ℕ) (before now : ReaderState) (fault : Fault) : Type 0 where
   pub front : List (ℕ × ℕ)
   pub range : ℕ × ℕ
   pub rest : List (ℕ × ℕ)
-  pub ranges : tail_ranges file ≡ front ++ range ∷ rest
+  pub ranges : tail_ranges hints file ≡ front ++ range ∷ rest
   pub place : fault.place ≡ Range range.0 range.1
   pub asked : Grew (opened front ++ faulty range fault ∷ []) before.log now.log
 
 -- ---- what stands after want of memory
 
 -- memory ran out while the file was opened: some of its opening ranges were asked, in order, with any marks
-pub record StopsOpening (file : List ℕ) (before now : ReaderState) : Type 0 where
+pub record StopsOpening (hints : Hints) (file : List ℕ) (before now : ReaderState) : Type 0 where
   pub gained : Log
   pub rest : List ReadAtRequest
-  pub ranges : map opening_range (tail_ranges file) ≡ ranges_of gained ++ rest
+  pub ranges : map opening_range (tail_ranges hints file) ≡ ranges_of gained ++ rest
   pub grew : Grew gained before.log now.log
 
 -- memory ran out after the file was opened: the steps before were answered, and at most one range more was
 -- asked than those of the spans that were read
-pub record StopsServing (file : List ℕ) (script : List Step) (before now : ReaderState) : Type 0 where
+pub record StopsServing (hints : Hints) (file : List ℕ) (script : List Step) (before now : ReaderState) : Type 0 where
   pub footer : FooterContent
-  pub grammar : vx_grammar file None ≡ Ok footer
+  pub grammar : vx_grammar file hints.dtype ≡ Ok footer
   pub gained : Log
-  pub stops : Stops (world_of file footer) script gained
-  pub grew : Grew (opened (tail_ranges file) ++ gained) before.log now.log
+  pub stops : Stops (world_of hints file footer) script gained
+  pub grew : Grew (opened (tail_ranges hints file) ++ gained) before.log now.log
 
 -- the answer to a script has its cause, where the reader tells its bytes
-abbrev pub HasCause : List ℕ → List Step → ReaderState → ReaderState → Result Served ServeError → Type 0
-HasCause file script before now (Ok s) = ServedFrom file script before now s
-HasCause file script before now (Err (errors.Open e)) = RefusedFrom file before now e
-HasCause file script before now (Err (errors.Fault fault)) = SizeFault before now fault ⊎ TailFault file before now fault
-HasCause file script before now (Err errors.OutOfMemory) = StopsOpening file before now ⊎ StopsServing file script before now
+abbrev pub HasCause : Hints → List ℕ → List Step → ReaderState → ReaderState → Result Served ServeError → Type 0
+HasCause hints file script before now (Ok s) = ServedFrom hints file script before now s
+HasCause hints file script before now (Err (errors.Open e)) = RefusedFrom hints file before now e
+HasCause hints file script before now (Err (errors.Fault fault)) = SizeFault hints before now fault ⊎ TailFault hints file before now fault
+HasCause hints file script before now (Err errors.OutOfMemory) = StopsOpening hints file before now ⊎ StopsServing hints file script before now
 
 -- a fault is answered only where the count of faults rose
 abbrev pub FaultRose : {A : Type 0} → ReaderState → ReaderState → Result A ServeError → Type 0
@@ -116,8 +118,8 @@ Succeeds (Err errors.OutOfMemory) = Unit {0}
 -- replies fit the script, one for each step, and no span is bad.
 pub record ServedWhole (file : List ℕ) (script : List Step) (s : Served) : Type 0 where
   pub footer : vx_grammar file None ≡ Ok s.footer.content
-  pub opening : s.opening ≡ tail_ranges file
-  pub fits : Fits (world_of file s.footer.content) [] script s.replies
+  pub opening : s.opening ≡ tail_ranges no_hints file
+  pub fits : Fits (world_of no_hints file s.footer.content) [] script s.replies
   pub good : bad_replies s.replies ≡ 0
 
 -- a file in memory is served where it is in the grammar, and else refused by the name of the check that it fails,

@@ -1,9 +1,10 @@
 -- What reading the tail of a file gives, and the footer that it tells.
-use Rattle.std.specs.Prelude.{◌≡◌, ◌⊎◌, ℕ, ◌+◌, ◌-◌, false, List, [], ◌∷◌, ◌++◌, length, drop, Option, Some, None, Result, Ok, Err}
+use Rattle.std.specs.Prelude.{◌≡◌, ◌⊎◌, ℕ, ◌+◌, ◌-◌, false, List, [], ◌∷◌, ◌++◌, length, drop, Option, Some, None, Result, Ok, Err, true, IfOk, IfErr, IsOk, OnErr}
 use Rattle.vx_base.specs.Asking.{Log, GrewOrStayed}
 use Rattle.vx_base.specs.Buffer.{bytes_at}
 use Rattle.vx_base.specs.Counts.{Rises}
 use Rattle.vx_base.specs.Readers.{ReaderState}
+use Rattle.vx_sched.specs.Outcomes.{size_fault}
 use Rattle.vx_sched.specs.declared.fault.Fault.{Fault}
 use Rattle.vx_sched.specs.declared.fault.Place.TheVariants.{Range}
 use Rattle.vx_footer.specs.declared.deserializer.DeserializeStep.{DeserializeStep}
@@ -20,8 +21,20 @@ use Rattle.vx_file.specs.declared.opening.Tail.{Tail}
 use Rattle.vx_file.specs.declared.served.ServeError.{ServeError}
 use Rattle.vx_file.specs.declared.served.ServeError.TheVariants as errors
 use Rattle.vx_file.specs.Logs.{Grew}
+use Rattle.vx_file.specs.Hints.{Hints, IsSizeOf}
 use Rattle.vx_file.specs.Ranges.{first_start, tail_start, tail_ranges, opening_range, opened}
 use Rattle.vx_file.specs.Serving.{RefusedFrom, SizeFault, TailFault, StopsOpening, faulty}
+
+-- ---- the size
+
+-- the size of a file: the one that is supplied, or what its reader says
+pub record SizeCause (hints : Hints) (before now : ReaderState) (size : Result ℕ Fault) : Type 0 where
+  pub told : IfOk size (λ n. (file : List ℕ) → before.bytes ≡ Some file → IsSizeOf hints.size file → n ≡ length file)
+  pub fault : IfErr size (λ f. f ≡ size_fault)
+  pub unknown : OnErr size (hints.size ≡ None)
+  pub failed : OnErr size (Rises 1 before.faults now.faults)
+  pub sound : before.never_fails ≡ true → IsOk size × (now.faults ≡ before.faults)
+  pub log : now.log ≡ before.log
 
 -- ---- the first range
 
@@ -32,8 +45,8 @@ pub record TailFrom (file : List ℕ) (from : ℕ) (t : Tail) : Type 0 where
   pub total : from + length t.bytes.bytes ≡ length file
 
 -- the first range was read
-pub record FirstRead (file : List ℕ) (before now : ReaderState) (t : Tail) : Type 0 where
-  pub tail : TailFrom file (first_start (length file)) t
+pub record FirstRead (hints : Hints) (file : List ℕ) (before now : ReaderState) (t : Tail) : Type 0 where
+  pub tail : TailFrom file (first_start hints (length file)) t
   pub asked : Grew (opened ((t.start, length t.bytes.bytes) ∷ [])) before.log now.log
   pub rises : Rises 0 before.faults now.faults
 
@@ -43,20 +56,20 @@ pub record RangeFault (offset len : ℕ) (before now : ReaderState) (fault : Fau
   pub asked : Grew (faulty (offset, len) fault ∷ []) before.log now.log
 
 -- where the first range of a file begins, and how long it is
-abbrev pub first_range : List ℕ → ℕ × ℕ
-first_range file = (first_start (length file), length file - first_start (length file))
+abbrev pub first_range : Hints → List ℕ → ℕ × ℕ
+first_range hints file = (first_start hints (length file), length file - first_start hints (length file))
 
-abbrev pub FirstCause : List ℕ → ReaderState → ReaderState → Result Tail ServeError → Type 0
-FirstCause file before now (Ok t) = FirstRead file before now t
-FirstCause file before now (Err (errors.Open e)) = ⊥
-FirstCause file before now (Err (errors.Fault fault)) = SizeFault before now fault ⊎ RangeFault (first_range file).0 (first_range file).1 before now fault
-FirstCause file before now (Err errors.OutOfMemory) = GrewOrStayed (opening_range (first_range file) ∷ []) before.log now.log
+abbrev pub FirstCause : Hints → List ℕ → ReaderState → ReaderState → Result Tail ServeError → Type 0
+FirstCause hints file before now (Ok t) = FirstRead hints file before now t
+FirstCause hints file before now (Err (errors.Open e)) = ⊥
+FirstCause hints file before now (Err (errors.Fault fault)) = SizeFault hints before now fault ⊎ RangeFault (first_range hints file).0 (first_range hints file).1 before now fault
+FirstCause hints file before now (Err errors.OutOfMemory) = GrewOrStayed (opening_range (first_range hints file) ∷ []) before.log now.log
 
 -- ---- what a tail tells
 
 -- the step that a tail leads to, in a file that ends with it
-abbrev pub tail_step : Tail → Result DeserializeStep OpenError
-tail_step t = step_of None (Some (t.start + length t.bytes.bytes)) t.bytes.bytes
+abbrev pub tail_step : Hints → Tail → Result DeserializeStep OpenError
+tail_step hints t = step_of hints.dtype (Some (t.start + length t.bytes.bytes)) t.bytes.bytes
 
 abbrev pub refused_as : OpenError → ServeError
 refused_as checks.OutOfMemory = errors.OutOfMemory
@@ -108,32 +121,32 @@ BeforeCause file t offset len before now (Err errors.OutOfMemory) = GrewOrStayed
 -- ---- the whole tail
 
 -- a footer that was found is what the tables of a file give
-abbrev pub IsFound : List ℕ → Option Footer → Type 0
-IsFound file None = Unit {0}
-IsFound file (Some footer) = footer_of file None ≡ Ok footer.content
+abbrev pub IsFound : Hints → List ℕ → Option Footer → Type 0
+IsFound hints file None = Unit {0}
+IsFound hints file (Some footer) = footer_of file hints.dtype ≡ Ok footer.content
 
 -- the tail was read that has all tables
-pub record TailRead (file : List ℕ) (before now : ReaderState) (o : Opening) : Type 0 where
-  pub first : o.first ≡ first_start (length file)
-  pub tail : TailFrom file (tail_start file) o.tail
-  pub footer : IsFound file o.footer
-  pub asked : Grew (opened (tail_ranges file)) before.log now.log
+pub record TailRead (hints : Hints) (file : List ℕ) (before now : ReaderState) (o : Opening) : Type 0 where
+  pub first : o.first ≡ first_start hints (length file)
+  pub tail : TailFrom file (tail_start hints file) o.tail
+  pub footer : IsFound hints file o.footer
+  pub asked : Grew (opened (tail_ranges hints file)) before.log now.log
   pub rises : Rises 0 before.faults now.faults
 
 -- where the footer is not known yet, the tail asks for no bytes
-abbrev pub IsSettled : Opening → Option Footer → Type 0
-IsSettled o (Some footer) = Unit {0}
-IsSettled o None = asks_bytes (tail_step o.tail) ≡ false
+abbrev pub IsSettled : Hints → Opening → Option Footer → Type 0
+IsSettled hints o (Some footer) = Unit {0}
+IsSettled hints o None = asks_bytes (tail_step hints o.tail) ≡ false
 
-abbrev pub TailCause : List ℕ → ReaderState → ReaderState → Result Opening ServeError → Type 0
-TailCause file before now (Ok o) = TailRead file before now o
-TailCause file before now (Err (errors.Open e)) = RefusedFrom file before now e
-TailCause file before now (Err (errors.Fault fault)) = SizeFault before now fault ⊎ TailFault file before now fault
-TailCause file before now (Err errors.OutOfMemory) = StopsOpening file before now
+abbrev pub TailCause : Hints → List ℕ → ReaderState → ReaderState → Result Opening ServeError → Type 0
+TailCause hints file before now (Ok o) = TailRead hints file before now o
+TailCause hints file before now (Err (errors.Open e)) = RefusedFrom hints file before now e
+TailCause hints file before now (Err (errors.Fault fault)) = SizeFault hints before now fault ⊎ TailFault hints file before now fault
+TailCause hints file before now (Err errors.OutOfMemory) = StopsOpening hints file before now
 
 -- the footer of a file, or its refusal
-abbrev pub FooterCause : List ℕ → Result Footer ServeError → Type 0
-FooterCause file (Ok footer) = vx_grammar file None ≡ Ok footer.content
-FooterCause file (Err (errors.Open e)) = vx_grammar file None ≡ Err e
-FooterCause file (Err (errors.Fault fault)) = ⊥
-FooterCause file (Err errors.OutOfMemory) = Unit {0}
+abbrev pub FooterCause : Hints → List ℕ → Result Footer ServeError → Type 0
+FooterCause hints file (Ok footer) = vx_grammar file hints.dtype ≡ Ok footer.content
+FooterCause hints file (Err (errors.Open e)) = vx_grammar file hints.dtype ≡ Err e
+FooterCause hints file (Err (errors.Fault fault)) = ⊥
+FooterCause hints file (Err errors.OutOfMemory) = Unit {0}

@@ -4,6 +4,7 @@
 mod drive;
 mod memory;
 mod opening;
+mod options;
 mod queue;
 mod reading;
 mod reply;
@@ -16,6 +17,7 @@ mod step;
 mod steps;
 
 pub use memory::serve_in_memory;
+pub use options::ServeOptions;
 pub use reply::Reply;
 pub use served::{ServeError, Served};
 pub use serving::serve;

@@ -20,11 +20,12 @@ use Rattle.vx_main.specs.declared.commands.demo.Demo as demo
 use Rattle.vx_main.specs.declared.failure.Failure.{Failure}
 use Rattle.vx_main.specs.declared.failure.Failure.TheVariants as failures
 use Rattle.vx_main.specs.declared.input.TheConstants.{MOST_INPUT}
-use Rattle.vx_main.specs.Command.{names_of, reads_script}
+use Rattle.vx_main.specs.Command.{names_of, reads_script, serve_hints}
+use Rattle.vx_file.specs.Hints.{Hints, IsSizeOf}
 use Rattle.vx_main.specs.Demo.{Demonstrates, DemoCause}
 use Rattle.vx_main.specs.Failures.{HasCause, LeavesFiles}
 use Rattle.vx_main.specs.Input.{ReadsScript, ScriptCause, BadLine, BadScript, BadLength}
-use Rattle.vx_main.specs.Outputs.{IsTold, wanted_status, input_status, script_status, file_status, grammar_status}
+use Rattle.vx_main.specs.Outputs.{IsTold, IsTrueSize, wanted_status, input_status, script_status, file_status, grammar_status}
 use Rattle.vx_main.specs.Outside.{outside}
 use Rattle.vx_main.specs.Runs.{Gathers}
 use Rattle.vx_main.specs.Script.{script_of}
@@ -95,14 +96,15 @@ script-fails c file source source_now files failures.OutOfMemory reads wanted to
 pub serve-unread : (s : serve.Serve) (source source_now : SourceState) (files : OpenerState) (failure : Failure) → ScriptCause source source_now (Err failure)
     → Gathers (commands.Serve s) source source_now files files (Err failure)
 serve-unread s source source_now files failure h =
-    script-fails (commands.Serve s) (file_status (files.file s.name)) source source_now files failure refl (λ out. refl) (λ out told. told.0) (inl (record { asked = refl; returned = refl })) h
+    script-fails (commands.Serve s) (file_status (serve_hints s) (files.file s.name)) source source_now files failure refl (λ out. refl) (λ out told. told.0) (inl (record { asked = refl; returned = refl })) h
 
-refused-status : (refusal : OpenError) (o : Option (List ℕ)) → is_some o ≡ true → ((file : List ℕ) → o ≡ Some file → vx_grammar file None ≡ Err refusal) → file_status o ≡ 4
-refused-status refusal None told h = absurd cc
-refused-status refusal (Some file) told h = ap grammar_status (h file refl)
+refused-status : (hints : Hints) (refusal : OpenError) (o : Option (List ℕ)) → is_some o ≡ true → IsTrueSize hints.size o → ((file : List ℕ) → o ≡ Some file → IsSizeOf hints.size file → vx_grammar file hints.dtype ≡ Err refusal)
+    → file_status hints o ≡ 4
+refused-status hints refusal None told sized h = absurd cc
+refused-status hints refusal (Some file) told sized h = ap grammar_status (h file refl sized)
 
 pub serve-fails : (s : serve.Serve) (steps : List Step) (source source_now : SourceState) (files files_now : OpenerState) (failure : Failure) → ReadsScript source source_now steps
-    → FileCause s.name steps files files_now (Err failure) → Gathers (commands.Serve s) source source_now files files_now (Err failure)
+    → FileCause (serve_hints s) s.name steps files files_now (Err failure) → Gathers (commands.Serve s) source source_now files files_now (Err failure)
 serve-fails s steps source source_now files files_now failures.Usage script h = absurd h
 serve-fails s steps source source_now files files_now (failures.Line line) script h = absurd h
 serve-fails s steps source source_now files files_now failures.Script script h = absurd h
@@ -112,8 +114,8 @@ serve-fails s steps source source_now files files_now (failures.Refused refusal)
     asks = record { named = refl; steps = steps; script = script; asked = h.0; out = refl };
     back = h.1;
     refuses = h.2;
-    deserved = λ told. read-status source source_now steps source.rest (file_status (files.file s.name)) refl told.0 script
-        ∙ refused-status refusal (files.file s.name) told.1 (λ file e. (h.2 file e).fails);
+    deserved = λ told. read-status source source_now steps source.rest (file_status (serve_hints s) (files.file s.name)) refl told.0 script
+        ∙ refused-status (serve_hints s) refusal (files.file s.name) told.1 told.2 (λ file e sized. (h.2 file e sized).fails);
   };
 }
 serve-fails s steps source source_now files files_now (failures.Read fault) script h = record {
@@ -136,22 +138,27 @@ serve-fails s steps source source_now files files_now (failures.Open name) scrip
 serve-fails s steps source source_now files files_now failures.InputTooLong script h = absurd h
 serve-fails s steps source source_now files files_now failures.OutOfMemory script h = record { each = λ out. record { files = h; out = inl refl } }
 
-served-status : (o : Option (List ℕ)) (served : Served) → is_some o ≡ true → ((file : List ℕ) → o ≡ Some file → vx_grammar file None ≡ Ok served.footer.content) → file_status o ≡ 0
-served-status None served told h = absurd cc
-served-status (Some file) served told h = ap grammar_status (h file refl)
+served-status : (hints : Hints) (o : Option (List ℕ)) (served : Served) → is_some o ≡ true → IsTrueSize hints.size o
+    → ((file : List ℕ) → o ≡ Some file → IsSizeOf hints.size file → vx_grammar file hints.dtype ≡ Ok served.footer.content) → file_status hints o ≡ 0
+served-status hints None served told sized h = absurd cc
+served-status hints (Some file) served told sized h = ap grammar_status (h file refl sized)
 
 pub serve-answers : (s : serve.Serve) (steps : List Step) (source source_now : SourceState) (files files_now : OpenerState) (served : Served) → ReadsScript source source_now steps
-    → FileCause s.name steps files files_now (Ok served) → Gathers (commands.Serve s) source source_now files files_now (Ok (answers.Served served))
+    → FileCause (serve_hints s) s.name steps files files_now (Ok served) → Gathers (commands.Serve s) source source_now files files_now (Ok (answers.Served served))
 serve-answers s steps source source_now files files_now served script h = record {
   each = λ out. record {
     is = record { served = served; is = refl; steps = steps; script = script; asked = h.0; back = h.1; serves = h.2 };
-    deserved = λ told. read-status source source_now steps source.rest (file_status (files.file s.name)) refl told.0 script
-        ∙ served-status (files.file s.name) served told.1 (λ file e. (h.2 file e).footer);
+    deserved = λ told. read-status source source_now steps source.rest (file_status (serve_hints s) (files.file s.name)) refl told.0 script
+        ∙ served-status (serve_hints s) (files.file s.name) served told.1 told.2 (λ file e sized. (h.2 file e sized).footer);
   };
 }
 
+-- memory for the options is wanting
+pub serve-stopped : (s : serve.Serve) (source source_now : SourceState) (files : OpenerState) → Gathers (commands.Serve s) source source_now files files (Err failures.OutOfMemory)
+serve-stopped s source source_now files = record { each = λ out. record { files = inl (record { asked = refl; returned = refl }); out = inl refl } }
+
 -- memory for the text of the type is wanting
-pub serve-unprinted : (s : serve.Serve) (steps : List Step) (source source_now : SourceState) (files files_now : OpenerState) (served : Served) → FileCause s.name steps files files_now (Ok served)
+pub serve-unprinted : (s : serve.Serve) (steps : List Step) (source source_now : SourceState) (files files_now : OpenerState) (served : Served) → FileCause (serve_hints s) s.name steps files files_now (Ok served)
     → Gathers (commands.Serve s) source source_now files files_now (Err failures.OutOfMemory)
 serve-unprinted s steps source source_now files files_now served h = record { each = λ out. record { files = inr (record { asked = h.0; back = inl h.1 }); out = inl refl } }
 

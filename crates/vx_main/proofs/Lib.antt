@@ -5,6 +5,7 @@ pub mod LayoutLines
 pub mod Lines
 pub mod Lists
 pub mod Noting
+pub mod OptionLemmas
 pub mod Openings
 pub mod Performing
 pub mod StatusRows

@@ -11,6 +11,7 @@ use Rattle.vx_base.specs.Streams.{SourceState}
 use Rattle.vx_sched.specs.declared.fault.Fault.{Fault}
 use Rattle.vx_file.specs.declared.step.Step.{Step}
 use Rattle.vx_file.specs.declared.served.Served.{Served}
+use Rattle.vx_file.specs.Hints.{Hints, IsSizeOf}
 use Rattle.vx_file.specs.Logs.{Grew}
 use Rattle.vx_footer.specs.declared.error.OpenError.{OpenError}
 use Rattle.vx_file.specs.Ranges.{opened as opened_ranges}
@@ -62,9 +63,9 @@ gives-back name before now opened served gained lent grew = record {
   asked = λ all told. fresh-log gained opened.log served.log (lent.fresh all told) grew;
 }
 
-serves-file : (file name : List ℕ) (script : List Step) (before now : OpenerState) (opened served : ReaderState) (s : Served) → Lent name before now opened served → ServedFrom file script opened served s
-    → ServesFile file name script before now s
-serves-file file name script before now opened served s lent h = record {
+serves-file : (hints : Hints) (file name : List ℕ) (script : List Step) (before now : OpenerState) (opened served : ReaderState) (s : Served) → Lent name before now opened served → ServedFrom hints file script opened served s
+    → ServesFile hints file name script before now s
+serves-file hints file name script before now opened served s lent h = record {
   footer = h.footer;
   opening = h.opening;
   fits = h.fits;
@@ -72,10 +73,10 @@ serves-file file name script before now opened served s lent h = record {
   bad = rises-through (bad_replies s.replies) before.read_faults now.read_faults opened.faults served.faults lent.faultless lent.counted lent.never_falls h.bad;
 }
 
-lacks : (file name : List ℕ) (fault : Fault) (before now : OpenerState) (opened served : ReaderState) → Lent name before now opened served → SizeFault opened served fault ⊎ TailFault file opened served fault
-    → LacksSize name fault before now ⊎ LacksTail file name fault before now
-lacks file name fault before now opened served lent (inl h) = inl (record { is = h.is; back = gives-back name before now opened served [] lent h.asked })
-lacks file name fault before now opened served lent (inr h) = inr (record {
+lacks : (hints : Hints) (file name : List ℕ) (fault : Fault) (before now : OpenerState) (opened served : ReaderState) → Lent name before now opened served → SizeFault hints opened served fault ⊎ TailFault hints file opened served fault
+    → LacksSize hints name fault before now ⊎ LacksTail hints file name fault before now
+lacks hints file name fault before now opened served lent (inl h) = inl (record { unknown = h.unknown; is = h.is; back = gives-back name before now opened served [] lent h.asked })
+lacks hints file name fault before now opened served lent (inr h) = inr (record {
   front = h.front;
   range = h.range;
   rest = h.rest;
@@ -84,19 +85,19 @@ lacks file name fault before now opened served lent (inr h) = inr (record {
   back = gives-back name before now opened served (opened_ranges h.front ++ faulty h.range fault ∷ []) lent h.asked;
 })
 
-refuses : (file name : List ℕ) (refusal : OpenError) (before now : OpenerState) (opened served : ReaderState) → Lent name before now opened served → RefusedFrom file opened served refusal → RefusesFile file name refusal before now
-refuses file name refusal before now opened served lent h = record { fails = h.fails; back = gives-back name before now opened served _ lent h.asked }
+refuses : (hints : Hints) (file name : List ℕ) (refusal : OpenError) (before now : OpenerState) (opened served : ReaderState) → Lent name before now opened served → RefusedFrom hints file opened served refusal → RefusesFile hints file name refusal before now
+refuses hints file name refusal before now opened served lent h = record { fails = h.fails; back = gives-back name before now opened served _ lent h.asked }
 
-pub file-cause : (name : List ℕ) (script : List Step) (before now : OpenerState) (opened served : ReaderState) (answer : Result Served Failure) → Lent name before now opened served
-    → ((file : List ℕ) → opened.bytes ≡ Some file → ReaderCause file script opened served answer) → ReaderFault opened served answer → FileCause name script before now answer
-file-cause name script before now opened served (Ok s) lent cause read = (lent.asked, gave-back name before now opened served lent, λ file told. serves-file file name script before now opened served s lent (cause file (lent.told file told)))
-file-cause name script before now opened served (Err (failures.Read fault)) lent cause read = (lent.asked, gave-back name before now opened served lent, rises-through 1 before.read_faults now.read_faults opened.faults served.faults lent.faultless lent.counted lent.never_falls read, λ file told. lacks file name fault before now opened served lent (cause file (lent.told file told)))
-file-cause name script before now opened served (Err (failures.Refused refusal)) lent cause read = (lent.asked, gave-back name before now opened served lent, λ file told. refuses file name refusal before now opened served lent (cause file (lent.told file told)))
-file-cause name script before now opened served (Err failures.OutOfMemory) lent cause read = inr (record { asked = lent.asked; back = inl (gave-back name before now opened served lent) })
-file-cause name script before now opened served (Err (failures.Line line)) lent cause read = absurd read
-file-cause name script before now opened served (Err failures.Script) lent cause read = absurd read
-file-cause name script before now opened served (Err failures.Usage) lent cause read = absurd read
-file-cause name script before now opened served (Err failures.Input) lent cause read = absurd read
-file-cause name script before now opened served (Err failures.Output) lent cause read = absurd read
-file-cause name script before now opened served (Err (failures.Open opened_name)) lent cause read = absurd read
-file-cause name script before now opened served (Err failures.InputTooLong) lent cause read = absurd read
+pub file-cause : (hints : Hints) (name : List ℕ) (script : List Step) (before now : OpenerState) (opened served : ReaderState) (answer : Result Served Failure) → Lent name before now opened served
+    → ((file : List ℕ) → opened.bytes ≡ Some file → IsSizeOf hints.size file → ReaderCause hints file script opened served answer) → ReaderFault opened served answer → FileCause hints name script before now answer
+file-cause hints name script before now opened served (Ok s) lent cause read = (lent.asked, gave-back name before now opened served lent, λ file told sized. serves-file hints file name script before now opened served s lent (cause file (lent.told file told) sized))
+file-cause hints name script before now opened served (Err (failures.Read fault)) lent cause read = (lent.asked, gave-back name before now opened served lent, rises-through 1 before.read_faults now.read_faults opened.faults served.faults lent.faultless lent.counted lent.never_falls read, λ file told sized. lacks hints file name fault before now opened served lent (cause file (lent.told file told) sized))
+file-cause hints name script before now opened served (Err (failures.Refused refusal)) lent cause read = (lent.asked, gave-back name before now opened served lent, λ file told sized. refuses hints file name refusal before now opened served lent (cause file (lent.told file told) sized))
+file-cause hints name script before now opened served (Err failures.OutOfMemory) lent cause read = inr (record { asked = lent.asked; back = inl (gave-back name before now opened served lent) })
+file-cause hints name script before now opened served (Err (failures.Line line)) lent cause read = absurd read
+file-cause hints name script before now opened served (Err failures.Script) lent cause read = absurd read
+file-cause hints name script before now opened served (Err failures.Usage) lent cause read = absurd read
+file-cause hints name script before now opened served (Err failures.Input) lent cause read = absurd read
+file-cause hints name script before now opened served (Err failures.Output) lent cause read = absurd read
+file-cause hints name script before now opened served (Err (failures.Open opened_name)) lent cause read = absurd read
+file-cause hints name script before now opened served (Err failures.InputTooLong) lent cause read = absurd read

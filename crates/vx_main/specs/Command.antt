@@ -1,13 +1,16 @@
 -- What the words of the program ask for.
-use Rattle.std.specs.Prelude.{◌≡◌, ℕ, ℤ, Bool, true, false, ◌&&◌, ◌==◌, nat_lt, nat_le, if◌then◌else◌, List, [], ◌∷◌, ◌++◌, length, codes, Option, Some, None, is_some, Result, Ok, Err}
+use Rattle.std.specs.Prelude.{◌≡◌, ℕ, ℤ, Bool, true, false, ◌&&◌, ◌==◌, nat_lt, nat_le, if◌then◌else◌, List, [], ◌∷◌, ◌++◌, length, codes, Option, Some, None, is_some, unwrap_or, Result, Ok, Err}
 use Rattle.std.specs.Option.{option_map}
 use Rattle.std.specs.Str.{bytes_eq}
 use Rattle.vx_main.specs.declared.command.Command.{Command}
 use Rattle.vx_main.specs.declared.command.Command.TheVariants.{Help, Version, Serve, Demo}
+use Rattle.vx_file.specs.Hints.{Hints, no_hints}
 use Rattle.vx_main.specs.declared.commands.demo.TheConstants.{MOST_VALUES}
+use Rattle.vx_main.specs.declared.commands.serve.Serve as serve
 use Rattle.vx_main.specs.declared.failure.Failure.{Failure}
 use Rattle.vx_main.specs.declared.failure.Failure.TheVariants as failures
 use Rattle.vx_main.specs.Numbers.{value_of}
+use Rattle.vx_main.specs.Options.{OptionShape, once, are_options, values_of, optional_number}
 
 -- ---- names and values
 
@@ -41,17 +44,32 @@ abbrev pub alone : Command → List (List ℕ) → Option Command
 alone c [] = Some c
 alone c (word ∷ words) = None
 
--- one name
+-- the size of the file, and how many bytes the first read is to ask for
+abbrev pub serve_shapes : List OptionShape
+serve_shapes = once (codes "--size") 1 ∷ once (codes "--initial") 1 ∷ []
+
+abbrev pub served_by : List ℕ → Option (Option ℕ) → Option (Option ℕ) → Option serve.Serve
+served_by name None initial = None
+served_by name (Some size) None = None
+served_by name (Some size) (Some initial) = Some (record { name = name; size = size; initial = unwrap_or initial 0 })
+
+-- a name, and options behind it
+abbrev pub serve_behind : Option (List ℕ) → List (List ℕ) → Option serve.Serve
+serve_behind None words = None
+serve_behind (Some name) words =
+    if are_options serve_shapes words then
+    served_by name (optional_number (values_of serve_shapes (codes "--size") words)) (optional_number (values_of serve_shapes (codes "--initial") words))
+    else None
+
 abbrev pub serve_of : List (List ℕ) → Option Command
 serve_of [] = None
-serve_of (word ∷ []) = option_map (λ name. Serve (record { name = name })) (name_of word)
-serve_of (word ∷ more ∷ words) = None
+serve_of (word ∷ words) = option_map (λ s. Serve s) (serve_behind (name_of word) words)
 
 -- at least one value, and at most so many
 abbrev pub demo_of : List (List ℕ) → Option Command
 demo_of words = if nat_lt 0 (length words) && nat_le (length words) MOST_VALUES then option_map (λ values. Demo (record { values = values })) (all_values words) else None
 
--- `--help` and `--version` alone, `serve NAME`, or `demo V ..`
+-- `--help` and `--version` alone, `serve NAME ..`, or `demo V ..`
 abbrev pub command_of : List (List ℕ) → Option Command
 command_of [] = None
 command_of (word ∷ words) =
@@ -69,6 +87,16 @@ Parses o (Err failures.OutOfMemory) = is_some o ≡ true
 Parses o (Err _) = ⊥
 
 -- ---- what a command touches
+
+abbrev pub serve_hints : serve.Serve → Hints
+serve_hints s = record { size = s.size; initial = s.initial; dtype = None }
+
+-- what it is told of the file that it opens
+abbrev pub hints_of : Command → Hints
+hints_of Help = no_hints
+hints_of Version = no_hints
+hints_of (Serve s) = serve_hints s
+hints_of (Demo d) = no_hints
 
 -- the names of the files that it opens
 abbrev pub names_of : Command → List (List ℕ)

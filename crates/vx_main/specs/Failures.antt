@@ -13,7 +13,8 @@ use Rattle.vx_main.specs.declared.command.Command.{Command}
 use Rattle.vx_main.specs.declared.command.Command.TheVariants.{Help, Version, Serve, Demo}
 use Rattle.vx_main.specs.declared.failure.Failure.{Failure}
 use Rattle.vx_main.specs.declared.failure.Failure.TheVariants as failures
-use Rattle.vx_main.specs.Command.{names_of, reads_script}
+use Rattle.vx_file.specs.Hints.{IsSizeOf}
+use Rattle.vx_main.specs.Command.{names_of, reads_script, hints_of}
 use Rattle.vx_main.specs.Input.{ReadsScript, BadLine, BadScript, BadLength}
 use Rattle.vx_main.specs.Outputs.{IsAnswer, text_of, Deserves}
 use Rattle.vx_main.specs.Outside.{Outside}
@@ -92,15 +93,16 @@ pub record ReadFault (c : Command) (before now : Outside) (fault : Fault) : Type
   pub asks : Asks c before now name
   pub back : GaveBack name before.files now.files
   pub rose : Rises 1 before.files.read_faults now.files.read_faults
-  pub lacks : (file : List ℕ) → before.files.file name ≡ Some file →
-      LacksSize name fault before.files now.files ⊎ LacksTail file name fault before.files now.files
+  pub lacks : (file : List ℕ) → before.files.file name ≡ Some file → IsSizeOf (hints_of c).size file →
+      LacksSize (hints_of c) name fault before.files now.files ⊎ LacksTail (hints_of c) file name fault before.files now.files
 
 -- the file fails an opening check, and its reader was given back
 pub record Refusal (c : Command) (before now : Outside) (refusal : OpenError) : Type 0 where
   pub name : List ℕ
   pub asks : Asks c before now name
   pub back : GaveBack name before.files now.files
-  pub refuses : (file : List ℕ) → before.files.file name ≡ Some file → RefusesFile file name refusal before.files now.files
+  pub refuses : (file : List ℕ) → before.files.file name ≡ Some file → IsSizeOf (hints_of c).size file →
+      RefusesFile (hints_of c) file name refusal before.files now.files
   pub deserved : Deserves c before 4
 
 -- a write of the answer's text failed, and a prefix of it stands on the output

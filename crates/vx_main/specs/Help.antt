@@ -8,16 +8,57 @@ abbrev pub usage_help : List ℕ
 usage_help = codes "usage: vx COMMAND\n\n"
 
 abbrev pub commands_help : List ℕ
-commands_help = codes "commands\n  serve NAME    opens the file NAME, reads a script from standard input, and\n                prints the file's footer and one reply for each step\n  demo V ..     the same with a file of the values V, 1 to 8192 numbers of 32\n                bits, which it writes to memory\n  --help        prints this text\n  --version     prints the version\n\n"
+commands_help = codes "commands\n"
+
+abbrev pub serve_help : List ℕ
+serve_help = codes "  serve NAME    opens the file NAME, reads a script from standard input, and\n"
+
+abbrev pub serve_more_help : List ℕ
+serve_more_help = codes "                prints the file's footer and one reply for each step\n"
+
+abbrev pub size_help : List ℕ
+size_help = codes "      --size N      the file has N bytes: its size is not asked\n"
+
+abbrev pub initial_help : List ℕ
+initial_help = codes "      --initial N   the first read asks for the last N bytes, 65535 at least\n"
+
+abbrev pub demo_help : List ℕ
+demo_help = codes "  demo V ..     the same with a file of the values V, 1 to 8192 numbers of 32\n                bits, which it writes to memory\n"
+
+abbrev pub texts_help : List ℕ
+texts_help = codes "  --help        prints this text\n  --version     prints the version\n"
+
+abbrev pub options_help : List ℕ
+options_help = codes "options stand behind NAME in any order, each at most once\n\n"
 
 abbrev pub script_help : List ℕ
-script_help = codes "script, a step a line\n  r SEGMENT     registers a request for a segment; requests are numbered from 0\n  p NUMBER      polls the request of a number\n  go            reads for each request that was polled and waits\n\n"
+script_help = codes "script, a step a line\n"
+
+abbrev pub register_help : List ℕ
+register_help = codes "  r SEGMENT     registers a request for a segment; requests are numbered from 0\n"
+
+abbrev pub poll_help : List ℕ
+poll_help = codes "  p NUMBER      polls the request of a number\n"
+
+abbrev pub drive_help : List ℕ
+drive_help = codes "  go            reads for each request that was polled and waits\n\n"
 
 abbrev pub statuses_help : List ℕ
-statuses_help = codes "exit statuses, each with a line on standard error but 0\n  0  all was printed                    6  the input could not be read\n  2  the arguments are no command       7  the output could not be written\n  3  a line of the script is no step,   8  the file could not be opened\n     or a segment is registered twice   9  the input is too long\n  4  the file is refused               70  out of memory\n  5  the file could not be read\n\n"
+statuses_help = codes "exit statuses, each with a line on standard error but 0\n"
+
+abbrev pub statuses_2_help : List ℕ
+statuses_2_help = codes "  0  all was printed                    6  the input could not be read\n  2  the arguments are no command       7  the output could not be written\n"
+
+abbrev pub statuses_3_help : List ℕ
+statuses_3_help = codes "  3  a line of the script is no step,   8  the file could not be opened\n     or a segment is registered twice   9  the input is too long\n"
+
+abbrev pub statuses_4_help : List ℕ
+statuses_4_help = codes "  4  the file is refused               70  out of memory\n  5  the file could not be read\n\n"
 
 abbrev pub example_help : List ℕ
 example_help = codes "example\n  printf 'r 0\\np 0\\n' | vx demo 1 2 3 4\n"
 
 abbrev pub help_text : List ℕ
-help_text = what_help ++ usage_help ++ commands_help ++ script_help ++ statuses_help ++ example_help
+help_text =
+    what_help ++ usage_help ++ commands_help ++ serve_help ++ serve_more_help ++ size_help ++ initial_help ++ demo_help ++ texts_help ++ options_help
+    ++ script_help ++ register_help ++ poll_help ++ drive_help ++ statuses_help ++ statuses_2_help ++ statuses_3_help ++ statuses_4_help ++ example_help

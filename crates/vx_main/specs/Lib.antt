@@ -5,6 +5,7 @@ pub mod Help
 pub mod InMemory
 pub mod Input
 pub mod Numbers
+pub mod Options
 pub mod Outputs
 pub mod Outside
 pub mod Refusals

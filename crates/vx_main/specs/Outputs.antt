@@ -11,6 +11,8 @@ use Rattle.vx_main.specs.declared.answer.Answer.TheVariants as answers
 use Rattle.vx_main.specs.declared.command.Command.{Command}
 use Rattle.vx_main.specs.declared.command.Command.TheVariants.{Help, Version, Serve, Demo}
 use Rattle.vx_main.specs.declared.input.TheConstants.{MOST_INPUT}
+use Rattle.vx_file.specs.Hints.{Hints, IsSizeOf}
+use Rattle.vx_main.specs.Command.{serve_hints}
 use Rattle.vx_main.specs.Demo.{Demonstrates}
 use Rattle.vx_main.specs.Help.{help_text}
 use Rattle.vx_main.specs.Input.{ReadsScript}
@@ -37,14 +39,14 @@ pub record IsFixed (fixed : Answer) (before now : Outside) (answer : Answer) : T
   pub files : now.files ≡ before.files
 
 -- the script of the input was served from the file of a name
-pub record IsServed (name : List ℕ) (before now : Outside) (answer : Answer) : Type 0 where
+pub record IsServed (hints : Hints) (name : List ℕ) (before now : Outside) (answer : Answer) : Type 0 where
   pub served : Served
   pub is : answer ≡ answers.Served served
   pub steps : List Step
   pub script : ReadsScript before.source now.source steps
   pub asked : AsksFor name before.files now.files
   pub back : GaveBack name before.files now.files
-  pub serves : (file : List ℕ) → before.files.file name ≡ Some file → ServesFile file name steps before.files now.files served
+  pub serves : (file : List ℕ) → before.files.file name ≡ Some file → IsSizeOf hints.size file → ServesFile hints file name steps before.files now.files served
 
 -- the script of the input was served from the file of some values, and no file was opened
 pub record IsDemonstrated (values : List ℤ) (before now : Outside) (answer : Answer) : Type 0 where
@@ -59,7 +61,7 @@ pub record IsDemonstrated (values : List ℤ) (before now : Outside) (answer : A
 abbrev pub IsAnswer : Command → Outside → Outside → Answer → Type 0
 IsAnswer Help before now answer = IsFixed answers.Help before now answer
 IsAnswer Version before now answer = IsFixed answers.Version before now answer
-IsAnswer (Serve s) before now answer = IsServed s.name before now answer
+IsAnswer (Serve s) before now answer = IsServed (serve_hints s) s.name before now answer
 IsAnswer (Demo d) before now answer = IsDemonstrated d.values before now answer
 
 -- ---- the status that a command deserves
@@ -77,22 +79,27 @@ abbrev pub input_status : Option (List ℕ) → ℕ → ℕ
 input_status None file = file
 input_status (Some text) file = if nat_lt MOST_INPUT (length text) then 9 else script_status (script_of text) file
 
-abbrev pub file_status : Option (List ℕ) → ℕ
-file_status None = 0
-file_status (Some file) = grammar_status (vx_grammar file None)
+abbrev pub file_status : Hints → Option (List ℕ) → ℕ
+file_status hints None = 0
+file_status hints (Some file) = grammar_status (vx_grammar file hints.dtype)
 
 -- the status that the words, the input and the file deserve
 abbrev pub wanted_status : Command → Outside → ℕ
 wanted_status Help before = 0
 wanted_status Version before = 0
-wanted_status (Serve s) before = input_status before.source.rest (file_status (before.files.file s.name))
+wanted_status (Serve s) before = input_status before.source.rest (file_status (serve_hints s) (before.files.file s.name))
 wanted_status (Demo d) before = input_status before.source.rest (grammar_status (vx_grammar (written d.values) None))
 
--- what a command reads is told
+-- a size that is supplied is that of the file, where the file is told
+abbrev pub IsTrueSize : Option ℕ → Option (List ℕ) → Type 0
+IsTrueSize size None = Unit {0}
+IsTrueSize size (Some file) = IsSizeOf size file
+
+-- what a command reads is told, and a size that is supplied is true
 abbrev pub IsTold : Command → Outside → Type 0
 IsTold Help before = Unit {0}
 IsTold Version before = Unit {0}
-IsTold (Serve s) before = (is_some before.source.rest ≡ true) × (is_some (before.files.file s.name) ≡ true)
+IsTold (Serve s) before = (is_some before.source.rest ≡ true) × (is_some (before.files.file s.name) ≡ true) × IsTrueSize s.size (before.files.file s.name)
 IsTold (Demo d) before = is_some before.source.rest ≡ true
 
 abbrev pub Deserves : Command → Outside → ℕ → Type 0

@@ -3,6 +3,7 @@ use Rattle.std.specs.Prelude.{◌≡◌, ℕ, ◌≤◌, ◌<◌, true, List, Op
 use Rattle.vx_base.specs.Counts.{last_count}
 use Rattle.vx_base.specs.Openers.{OpenerState, SameOpener}
 use Rattle.vx_base.specs.Streams.{SourceState, SinkState, SameSource, SameSink}
+use Rattle.vx_file.specs.Hints.{IsSizeOf}
 use Rattle.vx_main.specs.declared.command.Command.{Command}
 use Rattle.vx_main.specs.declared.command.Command.TheVariants.{Help, Version, Serve, Demo}
 
@@ -22,10 +23,11 @@ pub record SameOutside (before now : Outside) : Type 0 where
 
 -- ---- counts of faults
 
--- the counts of an opener whose file of this name is told and never fails stand still
-pub record OpenerSteady (name : List ℕ) (before now : OpenerState) : Type 0 where
+-- the counts of an opener whose file of this name is told and never fails stand still, where a size that is
+-- supplied is the file's
+pub record OpenerSteady (size : Option ℕ) (name : List ℕ) (before now : OpenerState) : Type 0 where
   pub opens : before.never_fails name ≡ true → now.faults ≡ before.faults
-  pub reads : (file : List ℕ) → before.never_fails name ≡ true → before.file name ≡ Some file → before.read_faults ≤ last_count →
+  pub reads : (file : List ℕ) → before.never_fails name ≡ true → before.file name ≡ Some file → IsSizeOf size file → before.read_faults ≤ last_count →
       now.read_faults ≡ before.read_faults
 
 -- an opener that no command calls stays as it is
@@ -33,7 +35,7 @@ abbrev pub FilesSteady : Option Command → OpenerState → OpenerState → Type
 FilesSteady None before now = now ≡ before
 FilesSteady (Some Help) before now = now ≡ before
 FilesSteady (Some Version) before now = now ≡ before
-FilesSteady (Some (Serve s)) before now = OpenerSteady s.name before now
+FilesSteady (Some (Serve s)) before now = OpenerSteady s.size s.name before now
 FilesSteady (Some (Demo d)) before now = now ≡ before
 
 -- the counts of what never fails stand still

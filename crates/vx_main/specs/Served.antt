@@ -13,6 +13,7 @@ use Rattle.vx_sched.specs.Outcomes.{size_fault}
 use Rattle.vx_file.specs.declared.step.Step.{Step}
 use Rattle.vx_file.specs.declared.served.Served.{Served}
 use Rattle.vx_file.specs.Fits.{Fits}
+use Rattle.vx_file.specs.Hints.{Hints, IsSizeOf}
 use Rattle.vx_file.specs.Ranges.{tail_ranges, opened}
 use Rattle.vx_file.specs.Serving.{ServedFrom, RefusedFrom, SizeFault, TailFault, asked, world_of, faulty}
 use Rattle.vx_file.specs.Turns.{bad_replies}
@@ -21,12 +22,12 @@ use Rattle.vx_main.specs.declared.failure.Failure.TheVariants as failures
 
 -- ---- by a reader
 
-abbrev pub ReaderCause : List ℕ → List Step → ReaderState → ReaderState → Result Served Failure → Type 0
-ReaderCause file script before now (Ok served) = ServedFrom file script before now served
-ReaderCause file script before now (Err (failures.Read fault)) = SizeFault before now fault ⊎ TailFault file before now fault
-ReaderCause file script before now (Err (failures.Refused refusal)) = RefusedFrom file before now refusal
-ReaderCause file script before now (Err failures.OutOfMemory) = Unit {0}
-ReaderCause file script before now (Err _) = ⊥
+abbrev pub ReaderCause : Hints → List ℕ → List Step → ReaderState → ReaderState → Result Served Failure → Type 0
+ReaderCause hints file script before now (Ok served) = ServedFrom hints file script before now served
+ReaderCause hints file script before now (Err (failures.Read fault)) = SizeFault hints before now fault ⊎ TailFault hints file before now fault
+ReaderCause hints file script before now (Err (failures.Refused refusal)) = RefusedFrom hints file before now refusal
+ReaderCause hints file script before now (Err failures.OutOfMemory) = Unit {0}
+ReaderCause hints file script before now (Err _) = ⊥
 
 abbrev pub ReaderFault : ReaderState → ReaderState → Result Served Failure → Type 0
 ReaderFault before now (Ok served) = Unit {0}
@@ -46,29 +47,30 @@ pub record GivesBack (name : List ℕ) (before now : OpenerState) (ranges : Log)
 -- A script was served from the file of a name: the footer is that of the grammar, the replies fit the
 -- script, one for each step, and the reader had been asked exactly for the ranges of opening and of the
 -- drives.
-pub record ServesFile (file name : List ℕ) (script : List Step) (before now : OpenerState) (served : Served) : Type 0 where
-  pub footer : vx_grammar file None ≡ Ok served.footer.content
-  pub opening : served.opening ≡ tail_ranges file
-  pub fits : Fits (world_of file served.footer.content) [] script served.replies
+pub record ServesFile (hints : Hints) (file name : List ℕ) (script : List Step) (before now : OpenerState) (served : Served) : Type 0 where
+  pub footer : vx_grammar file hints.dtype ≡ Ok served.footer.content
+  pub opening : served.opening ≡ tail_ranges hints file
+  pub fits : Fits (world_of hints file served.footer.content) [] script served.replies
   pub back : GivesBack name before now (asked served)
   pub bad : Rises (bad_replies served.replies) before.read_faults now.read_faults
 
 -- the first check that the file fails has this name, and the reader had been asked for the opening ranges alone
-pub record RefusesFile (file name : List ℕ) (refusal : OpenError) (before now : OpenerState) : Type 0 where
-  pub fails : vx_grammar file None ≡ Err refusal
-  pub back : GivesBack name before now (opened (tail_ranges file))
+pub record RefusesFile (hints : Hints) (file name : List ℕ) (refusal : OpenError) (before now : OpenerState) : Type 0 where
+  pub fails : vx_grammar file hints.dtype ≡ Err refusal
+  pub back : GivesBack name before now (opened (tail_ranges hints file))
 
--- the size could not be had, and the reader had been asked for no range
-pub record LacksSize (name : List ℕ) (fault : Fault) (before now : OpenerState) : Type 0 where
+-- the size, which is not supplied, could not be had, and the reader had been asked for no range
+pub record LacksSize (hints : Hints) (name : List ℕ) (fault : Fault) (before now : OpenerState) : Type 0 where
+  pub unknown : hints.size ≡ None
   pub is : fault ≡ size_fault
   pub back : GivesBack name before now []
 
 -- an opening range could not be read, which the fault names: those before it got their bytes
-pub record LacksTail (file name : List ℕ) (fault : Fault) (before now : OpenerState) : Type 0 where
+pub record LacksTail (hints : Hints) (file name : List ℕ) (fault : Fault) (before now : OpenerState) : Type 0 where
   pub front : List (ℕ × ℕ)
   pub range : ℕ × ℕ
   pub rest : List (ℕ × ℕ)
-  pub ranges : tail_ranges file ≡ front ++ range ∷ rest
+  pub ranges : tail_ranges hints file ≡ front ++ range ∷ rest
   pub place : fault.place ≡ Range range.0 range.1
   pub back : GivesBack name before now (opened front ++ faulty range fault ∷ [])
 
@@ -92,14 +94,14 @@ abbrev pub LeavesOpener : List ℕ → OpenerState → OpenerState → Type 0
 LeavesOpener name before now = AsksNothing before now ⊎ AskedAndBack name before now
 
 -- what serving the file of a name gave has its cause
-abbrev pub FileCause : List ℕ → List Step → OpenerState → OpenerState → Result Served Failure → Type 0
-FileCause name script before now (Ok served) = AsksFor name before now × GaveBack name before now ×
-    ((file : List ℕ) → before.file name ≡ Some file → ServesFile file name script before now served)
-FileCause name script before now (Err (failures.Open opened)) = (opened ≡ name) × AsksFor name before now × Rises 1 before.faults now.faults
-FileCause name script before now (Err (failures.Read fault)) =
+abbrev pub FileCause : Hints → List ℕ → List Step → OpenerState → OpenerState → Result Served Failure → Type 0
+FileCause hints name script before now (Ok served) = AsksFor name before now × GaveBack name before now ×
+    ((file : List ℕ) → before.file name ≡ Some file → IsSizeOf hints.size file → ServesFile hints file name script before now served)
+FileCause hints name script before now (Err (failures.Open opened)) = (opened ≡ name) × AsksFor name before now × Rises 1 before.faults now.faults
+FileCause hints name script before now (Err (failures.Read fault)) =
     AsksFor name before now × GaveBack name before now × Rises 1 before.read_faults now.read_faults ×
-    ((file : List ℕ) → before.file name ≡ Some file → LacksSize name fault before now ⊎ LacksTail file name fault before now)
-FileCause name script before now (Err (failures.Refused refusal)) = AsksFor name before now × GaveBack name before now ×
-    ((file : List ℕ) → before.file name ≡ Some file → RefusesFile file name refusal before now)
-FileCause name script before now (Err failures.OutOfMemory) = LeavesOpener name before now
-FileCause name script before now (Err _) = ⊥
+    ((file : List ℕ) → before.file name ≡ Some file → IsSizeOf hints.size file → LacksSize hints name fault before now ⊎ LacksTail hints file name fault before now)
+FileCause hints name script before now (Err (failures.Refused refusal)) = AsksFor name before now × GaveBack name before now ×
+    ((file : List ℕ) → before.file name ≡ Some file → IsSizeOf hints.size file → RefusesFile hints file name refusal before now)
+FileCause hints name script before now (Err failures.OutOfMemory) = LeavesOpener name before now
+FileCause hints name script before now (Err _) = ⊥

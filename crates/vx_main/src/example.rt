@@ -5,7 +5,8 @@ use std::alloc::Global;
 use std::fs;
 use std::test::Fail;
 use vx_base::{FileOpener, MemSink, Opener, Sink, write_flushed};
-use vx_file::{Reply, Step, serve};
+use vx_data::VortexSession;
+use vx_file::{Reply, ServeOptions, Step, serve};
 
 // Prints the first segment of a file, in hexadecimal.
 fn print_first<S: Sink>(rt: &HostRuntime, path: &str, out: &mut S) -> Result<(), Fail> {
@@ -13,7 +14,10 @@ fn print_first<S: Sink>(rt: &HostRuntime, path: &str, out: &mut S) -> Result<(),
     let mut files = FileOpener::new(*rt);
     let mut reader = files.open_named(alloc, path).ok().ok_or("not opened")?;
     let script = [Step::Register(0), Step::Poll(0)];
-    let served = serve(alloc, &mut reader, &script).ok().ok_or("not served")?;
+    let options = ServeOptions::new(VortexSession::new(alloc)?);
+    let served = serve(alloc, options, &mut reader, &script)
+        .ok()
+        .ok_or("not served")?;
     files.take_back(alloc, path, reader)?;
     if let Some(Reply::Ready(bytes)) = served.replies.as_slice().last() {
         let text = hex::encode(alloc, bytes.as_slice())?;

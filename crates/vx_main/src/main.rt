@@ -14,6 +14,7 @@ mod laws;
 mod memory;
 mod name;
 mod numbers;
+mod options;
 mod print;
 mod printable;
 #[cfg(test)]

@@ -106,11 +106,16 @@ fn serve_four(alloc: Global, script: &str, file: Vec<u8>, failing: Failing) -> R
 #[test]
 fn words_that_are_no_command_are_usage(rt: HostRuntime) -> Result<(), Fail> {
     let alloc = rt.alloc();
-    let lines: [&[&str]; 6] = [
+    let lines: [&[&str]; 11] = [
         &[],
         &["serve"],
         &["serve", "-x"],
         &["serve", "four", "five"],
+        &["serve", "four", "--size"],
+        &["serve", "four", "--size", "0449"],
+        &["serve", "four", "--size", "449", "--size", "449"],
+        &["serve", "four", "--most", "449"],
+        &["serve", "--size", "449", "four"],
         &["show", "four"],
         &["--help", "four"],
     ];
@@ -413,6 +418,44 @@ fn a_table_before_the_first_range_is_read_by_a_second(rt: HostRuntime) -> Result
 // Whether the text of a run ends so.
 fn ends_with(left: &Left, text: &str) -> bool {
     left.status == 0 && left.out.as_slice().ends_with(text.as_bytes())
+}
+
+#[test]
+fn a_size_and_a_first_read_are_taken_in_any_order(rt: HostRuntime) -> Result<(), Fail> {
+    let alloc = rt.alloc();
+    let rows: [(&[&str], u8, &str); 5] = [
+        (&["serve", "four", "--size", "449"], 0, "read 0 449\n"),
+        (
+            &["serve", "four", "--initial", "1", "--size", "449"],
+            0,
+            "read 0 449\n",
+        ),
+        (
+            &["serve", "four", "--size", "449", "--initial", "90000"],
+            0,
+            "read 0 449\n",
+        ),
+        (&["serve", "four", "--size", "448"], 4, ""),
+        (&["serve", "four", "--size", "450"], 5, ""),
+    ];
+    for (words, status, end) in rows {
+        let nowhere = Failing::nowhere(alloc);
+        let left = run_over(alloc, words, Vec::new(alloc), four(alloc)?, nowhere)?;
+        assert_eq!(rt; left.status, status);
+        assert!(rt; left.out.as_slice().ends_with(end.as_bytes()));
+    }
+    Ok(())
+}
+
+#[test]
+fn a_longer_first_read_needs_no_second(rt: HostRuntime) -> Result<(), Fail> {
+    let alloc = rt.alloc();
+    let words: [&str; 4] = ["serve", "four", "--initial", "150000"];
+    let nowhere = Failing::nowhere(alloc);
+    let left = run_over(alloc, &words, Vec::new(alloc), spread(alloc)?, nowhere)?;
+    assert_eq!(rt; left.status, 0);
+    assert!(rt; ends_with(&left, "read 50000 150000\n"));
+    Ok(())
 }
 
 #[test]

@@ -1,9 +1,10 @@
-//! `serve NAME`: serves the segments of a file by the script on the input.
-ghost use Rattle.std.specs.Prelude.{◌≡◌, false, [], ℕ, List, Some, true, map, string_bytes};
+//! `serve NAME [--size N] [--initial N]`: serves the segments of a file by the script on the input.
+ghost use Rattle.std.specs.Prelude.{◌≡◌, false, [], ℕ, List, Some, true, map, string_bytes, IfOk};
 ghost use Rattle.vx_base.specs.Openers.{SameOpener};
 ghost use Rattle.vx_base.specs.Readers.{SameReader};
 ghost use Rattle.vx_file.specs.Serving.{repeats};
-ghost use Rattle.vx_main.specs.Command.{serve_of, Parses};
+ghost use Rattle.vx_file.specs.Hints.{IsSizeOf};
+ghost use Rattle.vx_main.specs.Command.{serve_of, serve_behind, serve_shapes, serve_hints, Parses};
 ghost use Rattle.vx_main.specs.Outside.{Keeps, OpenerSteady};
 ghost use Rattle.vx_main.specs.Runs.{Gathers};
 ghost use Rattle.vx_main.specs.Served.{FileCause, ReaderCause, ReaderFault};
@@ -14,32 +15,45 @@ use crate::command::Command;
 use crate::failure::Failure;
 use crate::input::load_script;
 use crate::name::Name;
+use crate::options::{Shape, are_options, optional_number, values_of};
 use crate::printable::Printable;
-use std::alloc::Global;
+use std::alloc::{AllocError, Global};
 use vx_base::{Opener, OpenerError, Reader, Source};
-use vx_file::{ServeError, Served, Step, serve};
+use vx_data::VortexSession;
+use vx_file::{ServeError, ServeOptions, Served, Step, serve};
 
-/// The arguments of `serve`.
+/// The arguments of `serve`: the size of the file, where it is known, and how many bytes the first read is
+/// to ask for.
 #[derive(Drop)]
 pub struct Serve<'a> {
     pub name: Name<'a>,
+    pub size: Option<u64>,
+    pub initial: u64,
+}
+
+/// The options of `serve`, in any order.
+fn shapes() -> [Shape; 2]
+    ensures { result ≡ serve_shapes }
+{
+    [Shape::once("--size", 1), Shape::once("--initial", 1)]
 }
 
 /// Serves a script by a reader.
 fn serve_reader<'a, R: Reader>(
     alloc: Global,
+    options: ServeOptions,
     reader: &mut R,
     script: &[Step],
 ) -> Result<Served, Failure<'a>>
     requires { repeats [] script.now ≡ false }
-    ensures cause { (file : List ℕ) → (R.state reader.old).bytes ≡ Some file →
-        ReaderCause file script.now (R.state reader.old) (R.state reader.new) result }
+    ensures cause { (file : List ℕ) → (R.state reader.old).bytes ≡ Some file → IsSizeOf options.size file →
+        ReaderCause options file script.now (R.state reader.old) (R.state reader.new) result }
     ensures read { ReaderFault (R.state reader.old) (R.state reader.new) result }
     ensures steady { (file : List ℕ) → (R.state reader.old).never_fails ≡ true → (R.state reader.old).bytes ≡ Some file →
-        (R.state reader.new).faults ≡ (R.state reader.old).faults }
+        IsSizeOf options.size file → (R.state reader.new).faults ≡ (R.state reader.old).faults }
     ensures same { SameReader (R.state reader.old) (R.state reader.new) }
 {
-    match serve(alloc, reader, script) {
+    match serve(alloc, options, reader, script) {
         Ok(served) => Ok(served),
         Err(ServeError::Open(refusal)) => Err(Failure::Refused(refusal)),
         Err(ServeError::Fault(fault)) => Err(Failure::Read(fault)),
@@ -51,12 +65,13 @@ fn serve_reader<'a, R: Reader>(
 fn serve_name<'a, F: Opener>(
     alloc: Global,
     files: &mut F,
+    options: ServeOptions,
     name: &'a str,
     script: &[Step],
 ) -> Result<Served, Failure<'a>>
     requires { repeats [] script.now ≡ false }
-    ensures cause { FileCause name.now script.now (F.state files.old) (F.state files.new) result }
-    ensures steady { OpenerSteady name.now (F.state files.old) (F.state files.new) }
+    ensures cause { FileCause options name.now script.now (F.state files.old) (F.state files.new) result }
+    ensures steady { OpenerSteady options.size name.now (F.state files.old) (F.state files.new) }
     ensures same { SameOpener (F.state files.old) (F.state files.new) }
 {
     let mut reader = match files.open_named(alloc, name) {
@@ -64,23 +79,53 @@ fn serve_name<'a, F: Opener>(
         Err(OpenerError::Failed) => return Err(Failure::Open(Name::of(name))),
         Err(OpenerError::OutOfMemory) => return Err(Failure::OutOfMemory),
     };
-    let served = serve_reader(alloc, &mut reader, script);
+    let served = serve_reader(alloc, options, &mut reader, script);
     files.take_back(alloc, name, reader)?;
     served
 }
 
 impl<'a> Serve<'a> {
-    /// One name.
+    /// A name, and options behind it.
     pub(crate) fn parse(words: &'a [String]) -> Result<Command<'a>, Failure<'a>>
         ensures { Parses (serve_of (map string_bytes words.now)) result }
     {
-        let [word] = words else {
+        let [word, rest @ ..] = words else {
             return Err(Failure::Usage);
         };
-        match Name::parse(word.as_str()) {
-            Some(name) => Ok(Command::Serve(Serve { name })),
+        match Serve::behind(Name::parse(word.as_str()), rest) {
+            Some(serve) => Ok(Command::Serve(serve)),
             None => Err(Failure::Usage),
         }
+    }
+
+    /// The arguments of a name and the options behind it.
+    fn behind(name: Option<Name<'a>>, words: &[String]) -> Option<Serve<'a>>
+        ensures { result ≡ serve_behind name.entry (map string_bytes words.now) }
+    {
+        let shapes = shapes();
+        let name = name?;
+        if !are_options(&shapes, words) {
+            return None;
+        }
+        let size = optional_number(values_of(&shapes, "--size", words))?;
+        let initial = optional_number(values_of(&shapes, "--initial", words))?;
+        Some(Serve {
+            name,
+            size,
+            initial: initial.unwrap_or(0),
+        })
+    }
+
+    /// How the file is opened.
+    fn options(&self, alloc: Global) -> Result<ServeOptions, AllocError>
+        ensures { IfOk result (λ options. options ≡ serve_hints self.now) }
+    {
+        let options = ServeOptions::new(VortexSession::new(alloc)?);
+        Ok(
+            options
+                .with_some_file_size(self.size)
+                .with_initial_read_size(self.initial as usize),
+        )
     }
 
     /// What was served.
@@ -94,7 +139,8 @@ impl<'a> Serve<'a> {
         ensures keeps { Keeps (commands.Serve self.now) (I.state input.old) (I.state input.new) (F.state files.old) (F.state files.new) }
     {
         let script = load_script(alloc, input)?;
-        let served = serve_name(alloc, files, self.name.as_str(), script.as_slice())?;
+        let options = self.options(alloc)?;
+        let served = serve_name(alloc, files, options, self.name.as_str(), script.as_slice())?;
         Ok(Answer::Served(Printable::new(alloc, served)?))
     }
 }

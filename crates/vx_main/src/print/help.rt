@@ -9,14 +9,44 @@ const WHAT: &[u8] = b"vx serves the segments of a columnar file by a script of r
 
 const USAGE: &[u8] = b"usage: vx COMMAND\n\n";
 
-const COMMANDS: &[u8] =
-    b"commands\n  serve NAME    opens the file NAME, reads a script from standard input, and\n                prints the file's footer and one reply for each step\n  demo V ..     the same with a file of the values V, 1 to 8192 numbers of 32\n                bits, which it writes to memory\n  --help        prints this text\n  --version     prints the version\n\n";
+const COMMANDS: &[u8] = b"commands\n";
 
-const SCRIPT: &[u8] =
-    b"script, a step a line\n  r SEGMENT     registers a request for a segment; requests are numbered from 0\n  p NUMBER      polls the request of a number\n  go            reads for each request that was polled and waits\n\n";
+const SERVE: &[u8] =
+    b"  serve NAME    opens the file NAME, reads a script from standard input, and\n";
 
-const STATUSES: &[u8] =
-    b"exit statuses, each with a line on standard error but 0\n  0  all was printed                    6  the input could not be read\n  2  the arguments are no command       7  the output could not be written\n  3  a line of the script is no step,   8  the file could not be opened\n     or a segment is registered twice   9  the input is too long\n  4  the file is refused               70  out of memory\n  5  the file could not be read\n\n";
+const SERVE_MORE: &[u8] = b"                prints the file's footer and one reply for each step\n";
+
+const SIZE: &[u8] = b"      --size N      the file has N bytes: its size is not asked\n";
+
+const INITIAL: &[u8] =
+    b"      --initial N   the first read asks for the last N bytes, 65535 at least\n";
+
+const DEMO: &[u8] =
+    b"  demo V ..     the same with a file of the values V, 1 to 8192 numbers of 32\n                bits, which it writes to memory\n";
+
+const TEXTS: &[u8] = b"  --help        prints this text\n  --version     prints the version\n";
+
+const OPTIONS: &[u8] = b"options stand behind NAME in any order, each at most once\n\n";
+
+const SCRIPT: &[u8] = b"script, a step a line\n";
+
+const REGISTER: &[u8] =
+    b"  r SEGMENT     registers a request for a segment; requests are numbered from 0\n";
+
+const POLL: &[u8] = b"  p NUMBER      polls the request of a number\n";
+
+const DRIVE: &[u8] = b"  go            reads for each request that was polled and waits\n\n";
+
+const STATUSES: &[u8] = b"exit statuses, each with a line on standard error but 0\n";
+
+const STATUSES_2: &[u8] =
+    b"  0  all was printed                    6  the input could not be read\n  2  the arguments are no command       7  the output could not be written\n";
+
+const STATUSES_3: &[u8] =
+    b"  3  a line of the script is no step,   8  the file could not be opened\n     or a segment is registered twice   9  the input is too long\n";
+
+const STATUSES_4: &[u8] =
+    b"  4  the file is refused               70  out of memory\n  5  the file could not be read\n\n";
 
 const EXAMPLE: &[u8] = b"example\n  printf 'r 0\\np 0\\n' | vx demo 1 2 3 4\n";
 
@@ -27,7 +57,20 @@ pub(crate) fn put_help<S: Sink>(text: &mut TextOut, out: &mut S)
     text.word(out, WHAT);
     text.word(out, USAGE);
     text.word(out, COMMANDS);
+    text.word(out, SERVE);
+    text.word(out, SERVE_MORE);
+    text.word(out, SIZE);
+    text.word(out, INITIAL);
+    text.word(out, DEMO);
+    text.word(out, TEXTS);
+    text.word(out, OPTIONS);
     text.word(out, SCRIPT);
+    text.word(out, REGISTER);
+    text.word(out, POLL);
+    text.word(out, DRIVE);
     text.word(out, STATUSES);
+    text.word(out, STATUSES_2);
+    text.word(out, STATUSES_3);
+    text.word(out, STATUSES_4);
     text.word(out, EXAMPLE);
 }

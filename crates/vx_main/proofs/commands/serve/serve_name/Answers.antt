@@ -24,4 +24,4 @@ returns-clause-cause g c =
       counted = back.counted ∙ ap (λ (n : ℕ). min (n + served.faults) last_count) given.read_faults;
       never_falls = omega (arith, c.in-Ok.ensures.same.read_never_falls, c.in_ok-take_back.ensures.same.read_never_falls);
     } in
-    file-cause name c.args.script.now (opener c.args.files.now) (opener c.take_back.new.self) opened served c.serve_reader-served.result lent c.serve_reader-served.ensures.cause c.serve_reader-served.ensures.read
+    file-cause c.args.options name c.args.script.now (opener c.args.files.now) (opener c.take_back.new.self) opened served c.serve_reader-served.result lent c.serve_reader-served.ensures.cause c.serve_reader-served.ensures.read
