@@ -4,7 +4,8 @@ ghost use Rattle.vx_base.specs.Openers.{SameOpener};
 ghost use Rattle.vx_base.specs.Readers.{SameReader};
 ghost use Rattle.vx_file.specs.Serving.{repeats};
 ghost use Rattle.vx_file.specs.Hints.{IsSizeOf};
-ghost use Rattle.vx_main.specs.Command.{serve_of, serve_behind, serve_shapes, serve_hints, Parses};
+ghost use Rattle.vx_main.specs.Command.{serve_of, serve_behind, serve_shapes, served_by, serve_hints, Parses};
+ghost use Rattle.vx_main.specs.Options.{are_options, values_of, optional_number};
 ghost use Rattle.vx_main.specs.Outside.{Keeps, OpenerSteady};
 ghost use Rattle.vx_main.specs.Runs.{Gathers};
 ghost use Rattle.vx_main.specs.Served.{FileCause, ReaderCause, ReaderFault};
@@ -36,6 +37,20 @@ fn shapes() -> [Shape; 2]
     ensures { result ≡ serve_shapes }
 {
     [Shape::once("--size", 1), Shape::once("--initial", 1)]
+}
+
+fn are_serve_options(words: &[String]) -> bool
+    ensures { result ≡ are_options serve_shapes (map string_bytes words.now) }
+{
+    are_options(&shapes(), words)
+}
+
+/// The number of an option, where it is given.
+fn number(words: &[String], option: &str) -> Option<Option<u64>>
+    ensures { result ≡ optional_number (values_of serve_shapes option.now (map string_bytes words.now)) }
+{
+    let shapes = shapes();
+    optional_number(values_of(&shapes, option, words))
 }
 
 /// Serves a script by a reader.
@@ -92,27 +107,39 @@ impl<'a> Serve<'a> {
         let [word, rest @ ..] = words else {
             return Err(Failure::Usage);
         };
-        match Serve::behind(Name::parse(word.as_str()), rest) {
+        let Some(name) = Name::parse(word.as_str()) else {
+            return Err(Failure::Usage);
+        };
+        match Serve::behind(name, rest) {
             Some(serve) => Ok(Command::Serve(serve)),
             None => Err(Failure::Usage),
         }
     }
 
     /// The arguments of a name and the options behind it.
-    fn behind(name: Option<Name<'a>>, words: &[String]) -> Option<Serve<'a>>
-        ensures { result ≡ serve_behind name.entry (map string_bytes words.now) }
+    fn behind(name: Name<'a>, words: &[String]) -> Option<Serve<'a>>
+        ensures { result ≡ serve_behind (Some name.entry) (map string_bytes words.now) }
     {
-        let shapes = shapes();
-        let name = name?;
-        if !are_options(&shapes, words) {
+        if !are_serve_options(words) {
             return None;
         }
-        let size = optional_number(values_of(&shapes, "--size", words))?;
-        let initial = optional_number(values_of(&shapes, "--initial", words))?;
+        Serve::of(name, number(words, "--size"), number(words, "--initial"))
+    }
+
+    /// The arguments of these, where each number is one.
+    fn of(
+        name: Name<'a>,
+        size: Option<Option<u64>>,
+        initial: Option<Option<u64>>,
+    ) -> Option<Serve<'a>>
+        ensures { result ≡ served_by name.entry size initial }
+    {
+        let size = size?;
+        let initial = initial?.unwrap_or(0);
         Some(Serve {
             name,
             size,
-            initial: initial.unwrap_or(0),
+            initial,
         })
     }
 
