@@ -6,3 +6,14 @@ pub mod TypedLemmas
 pub mod TypingLemmas
 pub mod BitmapLemmas
 pub mod MakingLemmas
+pub mod CellLemmas
+pub mod EncodedLemmas
+pub mod WrittenLemmas
+pub mod CopyLemmas
+pub mod ValueLemmas
+pub mod TextRowLemmas
+pub mod BackLemmas
+pub mod TextBackLemmas
+pub mod TreeBackLemmas
+pub mod PrintedLemmas
+pub mod SoundLemmas

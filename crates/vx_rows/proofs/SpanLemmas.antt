@@ -1,5 +1,5 @@
 -- A run of values of a function.
-use Rattle.std.proofs.Common.{◌≡◌, ℕ, zero, suc, ◌+◌, ◌-◌, ◌<◌, ◌≤◌, ◌&&◌, Bool, true, false, [], ◌∷◌, ◌++◌, length, refl, ap, ◌∙◌, arith}
+use Rattle.std.proofs.Common.{◌≡◌, ℕ, zero, suc, ◌+◌, ◌-◌, ◌<◌, ◌≤◌, ◌&&◌, Bool, true, false, [], ◌∷◌, ◌++◌, length, List, refl, ap, sym, ◌∙◌, arith, append_assoc}
 use Rattle.std.specs.Prelude.{slice_index_or}
 use Rattle.vx_rows.specs.Span.{span, every}
 
@@ -36,3 +36,14 @@ every_all f k (suc n) h i l = at (f k) (every f (k + 1) n) i h refl refl (λ y j
     at true true (suc i) e x y rest u = ap f (omega arith) ∙ rest y i (omega arith)
     at true false i e x y rest u = cc
     at false b i e x y rest u = cc
+
+-- one more behind a front
+pub span_more : {A : Type 0} → (front : List A) (f : ℕ → A) (k : ℕ) → (front ++ span f 0 k) ++ f k ∷ [] ≡ front ++ span f 0 (k + 1)
+span_more front f k =
+    let e : 0 + k ≡ k = omega arith in
+    append_assoc front (span f 0 k) (f k ∷ []) ∙ ap (λ xs. front ++ xs) (ap (λ i. span f 0 k ++ f i ∷ []) (sym e) ∙ sym (span_push f 0 k))
+
+-- a test that holds at each place
+pub every_holds : (f : ℕ → Bool) (k n : ℕ) → ((i : ℕ) → k ≤ i → i < k + n → f i ≡ true) → every f k n ≡ true
+every_holds f k zero h = refl
+every_holds f k (suc n) h = ap (λ b. b && every f (k + 1) n) (h k (omega arith) (omega arith)) ∙ every_holds f (k + 1) n (λ i l u. h i (omega arith) (omega arith))

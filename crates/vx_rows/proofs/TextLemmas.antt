@@ -5,8 +5,8 @@ use Rattle.std.specs.Prelude.{slice_index}
 use Rattle.std.proofs.lemmas.Str.{IsUtf8-from_is_utf8}
 use Rattle.vx_data.specs.declared.ptype.PType.TheVariants.{U32}
 use Rattle.vx_rows.specs.Span.{span, every}
-use Rattle.vx_rows.specs.Columns.{Texts, value_size, raw_at, value_place, text_row, AreRanges, AreTexts}
-use Rattle.vx_rows.specs.Arrays.{presence_at, is_clear, place_at, places_at, is_text, texts_at}
+use Rattle.vx_rows.specs.Columns.{Texts, value_size, raw_at, value_place, text_row, AreRanges, AreTexts, is_clear}
+use Rattle.vx_rows.specs.Arrays.{presence_at, place_at, places_at, is_text, texts_at}
 use Rattle.vx_rows.proofs.SpanLemmas.{get_or_span, span_push, every_all}
 
 pub place_next : (b : List ℕ) (at start row : ℕ) → place_at b at start (row + 1) ≡ place_at b at start row + raw_at U32 b (value_place U32 at row)

@@ -1,12 +1,13 @@
 -- How columns are read from the bytes of a segment, each from a place on.
-use Rattle.std.specs.Prelude.{◌≡◌, ℕ, zero, suc, ◌+◌, ◌*◌, ◌-◌, ◌/◌, ◌%◌, ◌^◌, ◌==◌, ◌&&◌, ◌||◌, nat_le, nat_lt, Bool, not, if◌then◌else◌, List, length, slice_index, slice_range, Option, Some, None, Result, Ok, Err}
+use Rattle.std.specs.Prelude.{◌≡◌, ℕ, zero, suc, ◌+◌, ◌*◌, ◌-◌, ◌/◌, ◌%◌, ◌^◌, ◌==◌, ◌&&◌, ◌||◌, nat_le}
+use Rattle.std.specs.Prelude.{nat_lt, Bool, not, if◌then◌else◌, List, length, slice_index, slice_range, Option, Some, None, Result, Ok, Err}
 use Rattle.vx_base.specs.Checks.{◌>>=◌}
 use Rattle.std.specs.Str.{is_utf8}
 use Rattle.vx_data.specs.declared.ptype.PType.{PType}
 use Rattle.vx_data.specs.declared.ptype.PType.TheVariants.{U32}
 use Rattle.vx_rows.specs.Span.{span, every}
 use Rattle.vx_rows.specs.Bits.{bit, present_at, bitmap_size}
-use Rattle.vx_rows.specs.Columns.{Bools, Ints, Texts, value_size, value_place, raw_at, int_row, bool_row, text_row}
+use Rattle.vx_rows.specs.Columns.{Bools, Ints, Texts, value_size, value_place, raw_at, is_clear, int_row, bool_row, text_row}
 use Rattle.vx_rows.specs.declared.array_error.ArrayError.{ArrayError}
 use Rattle.vx_rows.specs.declared.array_error.ArrayError.TheVariants.{BadArray, UnknownEncoding, OutOfMemory}
 
@@ -45,10 +46,6 @@ presence_at nullable n b at =
     if nullable
     then (if nat_lt at (length b) then flagged n b (at + 1) (slice_index b at) else Err BadArray)
     else Ok (None, at)
-
--- the value of a null row is 0
-abbrev pub is_clear : PType → Option (List Bool) → List ℕ → ℕ → ℕ → Bool
-is_clear p present b at row = present_at present row || (raw_at p b (value_place p at row) == 0)
 
 abbrev pub ints_here : PType → Bool → ℕ → List ℕ → Option (List Bool) × ℕ → Found Ints
 ints_here p nullable n b (present, at) =

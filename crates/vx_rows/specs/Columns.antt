@@ -1,5 +1,8 @@
 -- What contracts see of a column: its type and the value of each row, or none where it is null.
-use Rattle.std.specs.Prelude.{ℕ, ℤ, pos, ◌+◌, ◌*◌, ◌<◌, ◌≤◌, Bool, true, false, ◌||◌, is_some, if◌then◌else◌, List, length, take, drop, slice_index, slice_index_or, slice_range, Option, Some, None}
+use Rattle.std.specs.Prelude.{ℕ, ℤ, pos, ◌+◌, ◌*◌, ◌<◌, ◌≤◌, ◌==◌, Bool, true, false, ◌||◌, not, is_some}
+use Rattle.std.specs.Prelude.{if◌then◌else◌, List, map, length, take, drop, slice_index, slice_index_or, slice_range, Option, Some, None, String, string_bytes}
+use Rattle.std.specs.Option.{option_map}
+use Rattle.std.specs.Global.{Global}
 use Rattle.std.specs.Str.{IsUtf8}
 use Rattle.std.specs.List.{list_all}
 use Rattle.std.specs.Int.{Width, w8, w16, w32, w64, from_le_bytes, cast_signed}
@@ -76,10 +79,18 @@ value_place p at row = at + value_size p * row
 abbrev pub int_row : PType → Option (List Bool) → List ℕ → ℕ → ℕ → Option ℤ
 int_row p present bytes at row = if present_at present row then Some (value_of p (raw_at p bytes (value_place p at row))) else None
 
+-- the value of a null row is 0
+abbrev pub is_clear : PType → Option (List Bool) → List ℕ → ℕ → ℕ → Bool
+is_clear p present b at row = present_at present row || (raw_at p b (value_place p at row) == 0)
+
 -- ---- truth values and texts
 
 abbrev pub bool_row : Option (List Bool) → List Bool → ℕ → Option Bool
 bool_row present values row = if present_at present row then Some (slice_index_or values row true) else None
+
+-- the value of a null row is false
+abbrev pub is_false_row : Option (List Bool) → List Bool → ℕ → Bool
+is_false_row present values row = present_at present row || not (slice_index_or values row true)
 
 -- the text of a row lies between its place and the next
 abbrev pub text_row : Option (List Bool) → List ℕ → List ℕ → ℕ → Option (List ℕ)
@@ -104,3 +115,7 @@ may_hold nullable values = nullable || list_all is_some values
 -- all structs are there, or they may be null
 abbrev pub are_there : Bool → List Bool → Bool
 are_there nullable present = nullable || list_all (λ b. b) present
+
+-- texts as their bytes
+abbrev pub texts_of : List (Option (String Global)) → List (Option (List ℕ))
+texts_of values = map (λ value. option_map string_bytes value) values

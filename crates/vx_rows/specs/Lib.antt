@@ -4,3 +4,6 @@ pub mod Columns
 pub mod Arrays
 pub mod Rows
 pub mod Trees
+pub mod Written
+pub mod Encoded
+pub mod ValueTexts

@@ -1,8 +1,12 @@
 -- What contracts see of a column of any type: a tree of plain data.
-use Rattle.std.specs.Prelude.{◌≡◌, ℕ, ℤ, Bool, true, List, [], ◌∷◌, map, length, slice_index_or, Option, None, is_some, String, string_bytes}
+use Rattle.std.specs.Prelude.{◌≡◌, ℕ, ℤ, Bool, true, List, [], ◌∷◌, map, length, slice_index_or, Option, None, is_some, IfSome, String, string_bytes}
+use Rattle.std.specs.List.{All}
+use Rattle.std.specs.Str.{IsUtf8}
 use Rattle.std.specs.Global.{Global}
 use Rattle.vx_data.specs.Dtype.{Dtype, FieldList, bool, int, text, struct, no_fields, field}
-use Rattle.vx_rows.specs.Columns.{Bools, Ints, Texts, Structs}
+use Rattle.vx_rows.specs.Columns.{Bools, Ints, Texts, Structs, may_hold, are_there}
+use Rattle.vx_rows.specs.Written.{is_within}
+use Rattle.vx_data.specs.declared.ptype.PType.{PType}
 use Rattle.vx_rows.specs.declared.column.Column.{Column, fold-Column}
 use Rattle.vx_rows.specs.declared.column.Column.TheOpen.{Column-F, Columns-F}
 use Rattle.vx_rows.specs.declared.column.Columns.{Columns, fold-Columns}
@@ -116,3 +120,23 @@ abbrev mutual
   pub AllHaveRows : ℕ → FieldRows → Type 0
   AllHaveRows n no_columns = Unit {0}
   AllHaveRows n (column name c cs) = HasRows n c × AllHaveRows n cs
+
+-- each number is in the range of the type
+abbrev pub AreWithin : PType → List (Option ℤ) → Type 0
+AreWithin p rows = All (λ (row : Option ℤ). IfSome row (λ value. is_within p value ≡ true)) rows
+
+-- each text is one
+abbrev pub AreUtf8 : List (Option (List ℕ)) → Type 0
+AreUtf8 rows = All (λ (row : Option (List ℕ)). IfSome row IsUtf8) rows
+
+abbrev mutual
+  -- a column of so many rows: values are of its type, and none is missing where it may not be null
+  pub IsColumn : ℕ → Rows → Type 0
+  IsColumn n (bools c) = (length c.rows ≡ n) × (may_hold c.nullable c.rows ≡ true)
+  IsColumn n (ints c) = (length c.rows ≡ n) × (may_hold c.nullable c.rows ≡ true) × AreWithin c.ptype c.rows
+  IsColumn n (texts c) = (length c.rows ≡ n) × (may_hold c.nullable c.rows ≡ true) × AreUtf8 c.rows
+  IsColumn n (structs c cs) = (length c.present ≡ n) × (are_there c.nullable c.present ≡ true) × AreColumns n cs
+
+  pub AreColumns : ℕ → FieldRows → Type 0
+  AreColumns n no_columns = Unit {0}
+  AreColumns n (column name c cs) = IsColumn n c × AreColumns n cs

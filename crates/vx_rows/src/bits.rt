@@ -1,5 +1,6 @@
 //! Truth values in a bitmap.
-ghost use Rattle.std.specs.Prelude.{◌≡◌, ◌+◌, ◌*◌, ◌<◌, ◌≤◌, ◌^◌, length, slice_index_or, true, false, IfOk};
+ghost use Rattle.std.specs.Prelude.{◌≡◌, ◌++◌, ◌+◌, ◌*◌, ◌<◌, ◌≤◌, ◌^◌, length, slice_index_or, true, false, IfOk, OnOk};
+ghost use Rattle.std.specs.List.{list_all};
 ghost use Rattle.vx_rows.specs.Span.{span, every};
 ghost use Rattle.vx_rows.specs.Bits.{bit, bit_value, bitmap_byte, bitmap_size, bitmap};
 
@@ -142,5 +143,58 @@ impl Bits {
         ensures { result ≡ slice_index_or self.now row true }
     {
         bit_of(self.held.as_slice(), self.at, self.first + row)
+    }
+
+    /// Whether each row is true.
+    #[tactic(auto, using(crate::proofs::WrittenLemmas::next_flag))]
+    pub(crate) fn are_all(&self) -> bool
+        ensures { result ≡ list_all (λ b. b) self.now }
+    {
+        for row in 0..self.len() {
+            if !self.get(row) {
+                return false;
+            }
+        }
+        true
+    }
+
+    /// The value of a bit: 1 where a row is true.
+    #[inline(always)]
+    #[tactic(auto, using(crate::proofs::WrittenLemmas::bit_values))]
+    fn bit_value(&self, row: usize) -> u8
+        ensures { result ≡ bit_value self.now row }
+    {
+        if row < self.len() && self.get(row) {
+            1
+        } else {
+            0
+        }
+    }
+
+    /// A byte of the bitmap.
+    fn byte(&self, k: usize) -> u8
+        requires { 8 * k + 7 < 2 ^ 64 }
+        ensures { result ≡ bitmap_byte self.now k }
+    {
+        let first = 8 * k;
+        let low = self.bit_value(first)
+            + 2 * self.bit_value(first + 1)
+            + 4 * self.bit_value(first + 2)
+            + 8 * self.bit_value(first + 3);
+        low + 16 * self.bit_value(first + 4)
+            + 32 * self.bit_value(first + 5)
+            + 64 * self.bit_value(first + 6)
+            + 128 * self.bit_value(first + 7)
+    }
+
+    /// Adds the bitmap.
+    #[tactic(auto, using(crate::proofs::SpanLemmas::span_push))]
+    pub(crate) fn push_bytes(&self, bytes: &mut Vec<u8>) -> Result<(), AllocError>
+        ensures { OnOk result (bytes.new.items ≡ bytes.old.items ++ bitmap self.now) }
+    {
+        for k in 0..bitmap_len(self.len()) {
+            bytes.push(self.byte(k))?;
+        }
+        Ok(())
     }
 }

@@ -1,10 +1,13 @@
 //! Columns of truth values.
-ghost use Rattle.std.specs.Prelude.{◌≡◌, ◌<◌, length, slice_index_or, is_some, IfSome, Some, None, true};
-ghost use Rattle.vx_rows.specs.Span.{span};
-ghost use Rattle.vx_rows.specs.Columns.{bool_row};
+ghost use Rattle.std.specs.Prelude.{◌≡◌, ◌++◌, ◌<◌, length, slice_index_or, is_some, IfSome, Some, None, true, OnOk};
+ghost use Rattle.vx_rows.specs.Span.{span, every};
+ghost use Rattle.vx_rows.specs.Columns.{bool_row, is_false_row};
+ghost use Rattle.vx_rows.specs.Written.{bools_bytes};
 
 use crate::Bits;
 use crate::int_column::has_value;
+use crate::presence::push_presence;
+use std::alloc::AllocError;
 use std::marker::Model;
 
 /// Truth values, some of which may be null.
@@ -16,21 +19,22 @@ pub struct BoolColumn {
 }
 
 impl Model for BoolColumn {
-    ghost use Rattle.std.specs.Prelude.{◌≡◌, length, IfSome};
-    ghost use Rattle.vx_rows.specs.Span.{span};
-    ghost use Rattle.vx_rows.specs.Columns.{Bools, bool_row};
+    ghost use Rattle.std.specs.Prelude.{◌≡◌, length, IfSome, true};
+    ghost use Rattle.vx_rows.specs.Span.{span, every};
+    ghost use Rattle.vx_rows.specs.Columns.{Bools, bool_row, is_false_row};
 
     ghost Value = { Bools };
 
     ghost view = { λ c. record { nullable = c.may_be_null; rows = span (bool_row c.present c.values) 0 (length c.values) } };
 
-    ghost invariant = { λ c. IfSome c.present (λ bits. length bits ≡ length c.values) };
+    ghost invariant = { λ c. IfSome c.present (λ bits. length bits ≡ length c.values) × (every (is_false_row c.present c.values) 0 (length c.values) ≡ true) };
 }
 
 impl BoolColumn {
-    /// Truth values, and which rows have one.
+    /// Truth values, and which rows have one. The others are false.
     pub(crate) fn new(may_be_null: bool, present: Option<Bits>, values: Bits) -> BoolColumn
-        requires { IfSome present (λ bits. length bits ≡ length values) }
+        requires long { IfSome present (λ bits. length bits ≡ length values) }
+        requires clear { every (is_false_row present values) 0 (length values) ≡ true }
         ensures { result ≡ record { nullable = may_be_null; rows = span (bool_row present values) 0 (length values) } }
     {
         BoolColumn {
@@ -76,5 +80,29 @@ impl BoolColumn {
         ensures { slice_index_or self.now.rows row None ≡ Some result }
     {
         self.values.get(row)
+    }
+
+    /// The value of a row, if there is such a row and it has one.
+    #[inline(always)]
+    #[tactic(auto, using(crate::proofs::WrittenLemmas::row_values))]
+    pub fn get(&self, row: usize) -> Option<bool>
+        ensures { result ≡ slice_index_or self.now.rows row None }
+    {
+        if row >= self.len() {
+            return None;
+        }
+        if !self.is_present(row) {
+            return None;
+        }
+        Some(self.bool_at(row))
+    }
+
+    /// Adds the bytes of the rows.
+    pub(crate) fn push_bytes(&self, bytes: &mut Vec<u8>) -> Result<(), AllocError>
+        ensures { OnOk result (bytes.new.items ≡ bytes.old.items ++ bools_bytes self.now) }
+    {
+        push_presence(bytes, self.may_be_null, &self.present, self.values.len())?;
+        self.values.push_bytes(bytes)?;
+        Ok(())
     }
 }

@@ -1,8 +1,8 @@
 //! A column of any type in the bytes of a segment.
-ghost use Rattle.std.specs.Prelude.{◌≡◌, ◌+◌, ◌≤◌, length, map, string_bytes, IfOk, OnOk, OnErr, ◌++◌, ◌∷◌, [], ℕ};
+ghost use Rattle.std.specs.Prelude.{◌≡◌, ◌+◌, ◌<◌, ◌≤◌, ◌==◌, length, slice_index, map, string_bytes, IfOk, OnOk, OnErr, ◌++◌, ◌∷◌, [], ℕ};
 ghost use Rattle.vx_base.specs.Checks.{Gives};
 ghost use Rattle.vx_data.specs.Dtype.{dtype_view, fields_view, pairs_view as types_view};
-ghost use Rattle.vx_rows.specs.Rows.{FieldRows, column as made, column_view, columns_view, viewed, dtype_of, HasRows};
+ghost use Rattle.vx_rows.specs.Rows.{FieldRows, column as made, column_view, columns_view, viewed, dtype_of, IsColumn};
 ghost use Rattle.vx_rows.specs.Arrays.{Fails};
 ghost use Rattle.vx_rows.specs.Trees.{index_of, index_at, structs_at, column_at, columns_at, before, array};
 
@@ -152,6 +152,14 @@ fn read_column(
     }
 }
 
+/// Whether no byte follows.
+fn ends_at(bytes: &[u8], after: usize) -> bool
+    ensures value { result ≡ (after == length bytes.now) }
+    ensures bytes { (i : ℕ) → slice_index bytes.now i < 256 }
+{
+    after == bytes.len()
+}
+
 /// The column of a type and so many rows whose bytes these are. Its values are shared, not copied. The ids are
 /// those of the file's array encodings; the first fault in reading order is answered.
 pub fn decode_array(
@@ -164,11 +172,11 @@ pub fn decode_array(
     ensures value { Gives Fails column_view result
         (array (map string_bytes ids.now) (dtype_view dtype.now) rows segment.now.bytes) }
     ensures typed { IfOk result (λ c. dtype_of (column_view c) ≡ dtype_view dtype.now) }
-    ensures long { IfOk result (λ c. HasRows rows (column_view c)) }
+    ensures sound { IfOk result (λ c. IsColumn rows (column_view c)) }
 {
     let kinds = kinds_of(alloc, ids)?;
     let (column, after) = read_column(alloc, &kinds, dtype, segment, 0, rows as usize)?;
-    if after != segment.len() {
+    if !ends_at(segment.as_slice(), after) {
         return Err(ArrayError::BadArray);
     }
     Ok(column)

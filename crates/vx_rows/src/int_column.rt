@@ -1,11 +1,15 @@
 //! Columns of integers.
-ghost use Rattle.std.specs.Prelude.{◌≡◌, ◌+◌, ◌*◌, ◌<◌, ◌≤◌, ◌==◌, ◌^◌, length, slice_index_or, is_some, IsSome, IfOk, IfSome, Some, None, true, take, drop, pos};
+ghost use Rattle.std.specs.Prelude.{◌≡◌, ◌++◌, ◌+◌, ◌*◌, ◌<◌, ◌≤◌, ◌==◌, ◌^◌, OnOk, length};
+ghost use Rattle.std.specs.Prelude.{slice_index_or, is_some, IsSome, IfOk, IfSome, Some, None, true, take, drop, pos};
 ghost use Rattle.std.specs.Int.{w8, w16, w32, w64, from_le_bytes, cast_signed};
-ghost use Rattle.vx_rows.specs.Span.{span};
+ghost use Rattle.std.specs.List.{flat_map};
+ghost use Rattle.vx_rows.specs.Span.{span, every};
 ghost use Rattle.vx_rows.specs.Bits.{present_at};
-ghost use Rattle.vx_rows.specs.Columns.{value_size, value_place, raw_at, value_of, int_row};
+ghost use Rattle.vx_rows.specs.Columns.{value_size, value_place, raw_at, value_of, int_row, is_clear};
+ghost use Rattle.vx_rows.specs.Written.{cell, ints_bytes};
 
 use crate::Bits;
+use crate::presence::push_presence;
 use std::alloc::{AllocError, Global};
 use std::marker::Model;
 use vx_base::ByteBuffer;
@@ -23,9 +27,9 @@ pub struct IntColumn {
 }
 
 impl Model for IntColumn {
-    ghost use Rattle.std.specs.Prelude.{◌≡◌, ◌≤◌, length, IfSome};
-    ghost use Rattle.vx_rows.specs.Span.{span};
-    ghost use Rattle.vx_rows.specs.Columns.{Ints, value_place, int_row};
+    ghost use Rattle.std.specs.Prelude.{◌≡◌, ◌≤◌, length, IfSome, true};
+    ghost use Rattle.vx_rows.specs.Span.{span, every};
+    ghost use Rattle.vx_rows.specs.Columns.{Ints, value_place, int_row, is_clear};
 
     ghost Value = { Ints };
 
@@ -35,7 +39,8 @@ impl Model for IntColumn {
       rows = span (int_row c.kind c.present c.held.bytes c.at) 0 c.count;
     } };
 
-    ghost invariant = { λ c. (value_place c.kind c.at c.count ≤ length c.held.bytes) × IfSome c.present (λ bits. length bits ≡ c.count) };
+    ghost invariant = { λ c. (value_place c.kind c.at c.count ≤ length c.held.bytes) × IfSome c.present (λ bits. length bits ≡ c.count)
+        × (every (is_clear c.kind c.present c.held.bytes c.at) 0 c.count ≡ true) };
 }
 
 /// How many bytes a value of a type has.
@@ -185,8 +190,26 @@ pub fn has_value(present: &Option<Bits>, row: usize) -> bool
     }
 }
 
+/// Adds the bytes of values, among which those of null rows are 0.
+fn push_values(
+    bytes: &mut Vec<u8>,
+    kind: PType,
+    present: &Option<Bits>,
+    held: &[u8],
+    at: usize,
+    count: usize,
+) -> Result<(), AllocError>
+    requires inside { value_place kind at count ≤ length held.now }
+    requires bound { length held.now < 2 ^ 63 }
+    requires clear { every (is_clear kind present.now held.now at) 0 count ≡ true }
+    ensures { OnOk result (bytes.new.items ≡ bytes.old.items ++ flat_map (cell kind) (span (int_row kind present.now held.now at) 0 count)) }
+{
+    let end = place_of(kind, at, count);
+    bytes.extend_from_slice(&held[at..end])
+}
+
 impl IntColumn {
-    /// Integers whose values begin at a byte. Only memory refuses.
+    /// Integers whose values begin at a byte; those of null rows are 0. Only memory refuses.
     pub(crate) fn new(
         alloc: Global,
         kind: PType,
@@ -198,6 +221,7 @@ impl IntColumn {
     ) -> Result<IntColumn, AllocError>
         requires inside { value_place kind at count ≤ length held.now.bytes }
         requires present { IfSome present (λ bits. length bits ≡ count) }
+        requires clear { every (is_clear kind present held.now.bytes at) 0 count ≡ true }
         ensures { IfOk result (λ c. c ≡ record {
           ptype = kind;
           nullable = may_be_null;
@@ -260,5 +284,36 @@ impl IntColumn {
         let bytes = self.held.as_slice();
         let place = place_of(self.kind, self.at, row);
         value_at(self.kind, bytes, place)
+    }
+
+    /// The value of a row, if there is such a row and it has one.
+    #[inline(always)]
+    #[tactic(auto, using(crate::proofs::WrittenLemmas::row_values))]
+    pub fn get(&self, row: usize) -> Option<i128>
+        ensures { result ≡ slice_index_or self.now.rows row None }
+    {
+        if row >= self.len() {
+            return None;
+        }
+        if !self.is_present(row) {
+            return None;
+        }
+        Some(self.int_at(row))
+    }
+
+    /// Adds the bytes of the rows.
+    pub(crate) fn push_bytes(&self, bytes: &mut Vec<u8>) -> Result<(), AllocError>
+        ensures { OnOk result (bytes.new.items ≡ bytes.old.items ++ ints_bytes self.now) }
+    {
+        push_presence(bytes, self.may_be_null, &self.present, self.count)?;
+        push_values(
+            bytes,
+            self.kind,
+            &self.present,
+            self.held.as_slice(),
+            self.at,
+            self.count,
+        )?;
+        Ok(())
     }
 }

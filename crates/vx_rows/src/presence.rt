@@ -1,12 +1,15 @@
 //! Which rows of a column are not null, in the bytes of a segment.
-ghost use Rattle.std.specs.Prelude.{◌≡◌, ◌+◌, ◌-◌, ◌*◌, ◌/◌, ◌<◌, ◌≤◌, length, IfOk, IfSome, OnOk, ◌≤◌};
+ghost use Rattle.std.specs.Prelude.{◌≡◌, ◌++◌, ◌∷◌, [], ◌+◌, ◌-◌, ◌*◌, ◌/◌, ◌<◌, ◌≤◌, length, if◌then◌else◌, IfOk, IfSome, OnOk, ◌≤◌};
+ghost use Rattle.std.specs.List.{list_all};
+ghost use Rattle.vx_rows.specs.Span.{span};
 ghost use Rattle.vx_base.specs.Checks.{Gives};
-ghost use Rattle.vx_rows.specs.Bits.{bitmap_size};
+ghost use Rattle.vx_rows.specs.Bits.{bitmap_size, bitmap, present_at};
+ghost use Rattle.vx_rows.specs.Written.{presence_bytes, flags_bytes};
 ghost use Rattle.vx_rows.specs.Arrays.{Fails, is_padded, bitmap_end, bitmap_at, some_present, flagged, presence_at};
 
 use crate::bits::{are_set, bitmap_len};
 use crate::{ArrayError, Bits};
-use std::alloc::Global;
+use std::alloc::{AllocError, Global};
 use vx_base::ByteBuffer;
 
 /// Whether the bits behind the last row are 0.
@@ -116,4 +119,36 @@ pub fn read_presence(
         return Err(ArrayError::BadArray);
     }
     read_flagged(alloc, segment, at + 1, rows, bytes[at])
+}
+
+/// Adds 0 where each row is true, else 1 and the bitmap.
+fn push_flags(bytes: &mut Vec<u8>, flags: &Bits) -> Result<(), AllocError>
+    ensures { OnOk result (bytes.new.items ≡ bytes.old.items ++ flags_bytes flags.now) }
+{
+    if flags.are_all() {
+        bytes.push(0)?;
+        return Ok(());
+    }
+    bytes.push(1)?;
+    flags.push_bytes(bytes)
+}
+
+/// Adds which rows are not null.
+#[tactic(auto, using(crate::proofs::WrittenLemmas::presence))]
+pub fn push_presence(
+    bytes: &mut Vec<u8>,
+    nullable: bool,
+    present: &Option<Bits>,
+    rows: usize,
+) -> Result<(), AllocError>
+    requires { IfSome present.now (λ bits. length bits ≡ rows) }
+    ensures { OnOk result (bytes.new.items ≡ bytes.old.items ++ presence_bytes nullable (span (present_at present.now) 0 rows)) }
+{
+    if !nullable {
+        return Ok(());
+    }
+    match present {
+        None => Ok(bytes.push(0)?),
+        Some(bits) => push_flags(bytes, bits),
+    }
 }

@@ -3,8 +3,8 @@ ghost use Rattle.std.specs.Prelude.{◌≡◌, ◌+◌, ◌-◌, ◌*◌, ◌<�
 ghost use Rattle.vx_base.specs.Checks.{Gives};
 ghost use Rattle.vx_rows.specs.Span.{every};
 ghost use Rattle.vx_rows.specs.Bits.{bitmap_size};
-ghost use Rattle.vx_rows.specs.Columns.{value_size, value_place, raw_at};
-ghost use Rattle.vx_rows.specs.Arrays.{Fails, is_clear, is_false, ints_at, bools_at};
+ghost use Rattle.vx_rows.specs.Columns.{value_size, value_place, raw_at, is_clear};
+ghost use Rattle.vx_rows.specs.Arrays.{Fails, is_false, ints_at, bools_at};
 
 use crate::bits::bit_of;
 use crate::int_column::{has_value, is_zero, place_of};

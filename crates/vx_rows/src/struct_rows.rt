@@ -1,10 +1,13 @@
 //! Which structs of a column are not null.
-ghost use Rattle.std.specs.Prelude.{◌≡◌, ◌<◌, length, slice_index_or, IfSome, true};
+ghost use Rattle.std.specs.Prelude.{◌≡◌, ◌++◌, ◌<◌, length, slice_index_or, IfSome, true, OnOk};
 ghost use Rattle.vx_rows.specs.Span.{span};
 ghost use Rattle.vx_rows.specs.Bits.{present_at};
+ghost use Rattle.vx_rows.specs.Written.{presence_bytes};
 
 use crate::Bits;
 use crate::int_column::has_value;
+use crate::presence::push_presence;
+use std::alloc::AllocError;
 use std::marker::Model;
 
 /// Which structs are not null.
@@ -66,5 +69,24 @@ impl StructRows {
         ensures { result ≡ slice_index_or self.now.present row true }
     {
         has_value(&self.bits, row)
+    }
+
+    /// Whether a row is not null, or there is no such row.
+    #[inline(always)]
+    #[tactic(auto, using(crate::proofs::WrittenLemmas::past))]
+    pub(crate) fn has(&self, row: usize) -> bool
+        ensures { result ≡ slice_index_or self.now.present row true }
+    {
+        if row >= self.len() {
+            return true;
+        }
+        self.is_present(row)
+    }
+
+    /// Adds which rows are not null.
+    pub(crate) fn push_bytes(&self, bytes: &mut Vec<u8>) -> Result<(), AllocError>
+        ensures { OnOk result (bytes.new.items ≡ bytes.old.items ++ presence_bytes self.now.nullable self.now.present) }
+    {
+        push_presence(bytes, self.may_be_null, &self.bits, self.count)
     }
 }

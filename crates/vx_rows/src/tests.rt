@@ -1,5 +1,7 @@
 //! Worked rows of the array codec, with ample memory.
-use crate::{ArrayError, Column, Mask, decode_array};
+use crate::{
+    ArrayError, Column, EncodeError, Mask, decode_array, encode_array, push_rows, row_text,
+};
 use std::alloc::Global;
 use std::test::Fail;
 use vx_base::{Alignment, ByteBuffer};
@@ -98,5 +100,103 @@ fn values_are_read(rt: HostRuntime) -> Result<(), Fail> {
 fn a_mask_keeps_its_bits(rt: HostRuntime) -> Result<(), Fail> {
     let mask = Mask::new(vec![in rt.alloc(); true, false]?);
     assert!(rt; mask.len() == 2 && mask.get(0) && !mask.get(1));
+    Ok(())
+}
+
+// The bytes of a column, in the order of the ids above.
+fn encoded(alloc: Global, column: &Column) -> Result<ByteBuffer, Fail> {
+    let ids = ids(alloc)?;
+    if ids.len() > 65536 {
+        return Err(Fail::from("too many ids"));
+    }
+    match encode_array(alloc, column, &ids) {
+        Ok(bytes) => Ok(bytes),
+        Err(_) => Err(Fail::from("refused")),
+    }
+}
+
+// -2, null and 258.
+fn numbers(alloc: Global) -> Result<Column, Fail> {
+    let values = vec![in alloc; Some(-2), None, Some(258)]?;
+    Ok(Column::ints(alloc, PType::I16, &values, true)?)
+}
+
+// `a b` and the empty text.
+fn words(alloc: Global) -> Result<Column, Fail> {
+    let mut values = Vec::new(alloc);
+    values.push(Some(String::from_str(alloc, "a b")?))?;
+    values.push(Some(String::new(alloc)))?;
+    Ok(Column::texts(alloc, &values, false)?)
+}
+
+// The rows of a column, one line each.
+fn printed(alloc: Global, column: &Column) -> Result<String, Fail> {
+    let mut text = String::new(alloc);
+    push_rows(alloc, &mut text, column)?;
+    Ok(text)
+}
+
+#[test]
+fn integers_are_written(rt: HostRuntime) -> Result<(), Fail> {
+    let alloc = rt.alloc();
+    let bytes = encoded(alloc, &numbers(alloc)?)?;
+    let wanted = b"\x01\x00\x01\x05\xfe\xff\x00\x00\x02\x01";
+    assert!(rt; bytes.as_slice() == wanted.as_slice());
+    Ok(())
+}
+
+#[test]
+fn texts_are_written(rt: HostRuntime) -> Result<(), Fail> {
+    let alloc = rt.alloc();
+    let bytes = encoded(alloc, &words(alloc)?)?;
+    let wanted = b"\x03\x00\x03\x00\x00\x00\x00\x00\x00\x00a b";
+    assert!(rt; bytes.as_slice() == wanted.as_slice());
+    Ok(())
+}
+
+#[test]
+fn an_id_that_is_missing_is_not_permitted(rt: HostRuntime) -> Result<(), Fail> {
+    let alloc = rt.alloc();
+    let column = numbers(alloc)?;
+    let mut ids = Vec::new(alloc);
+    ids.push(String::from_str(alloc, "vortex.bool")?)?;
+    match encode_array(alloc, &column, &ids) {
+        Err(EncodeError::NotPermitted) => Ok(()),
+        _ => Err(Fail::from("permitted")),
+    }
+}
+
+#[test]
+fn integers_are_printed(rt: HostRuntime) -> Result<(), Fail> {
+    let alloc = rt.alloc();
+    let text = printed(alloc, &numbers(alloc)?)?;
+    assert!(rt; text.as_str() == "-2\n~\n258\n");
+    Ok(())
+}
+
+#[test]
+fn texts_are_printed(rt: HostRuntime) -> Result<(), Fail> {
+    let alloc = rt.alloc();
+    let text = printed(alloc, &words(alloc)?)?;
+    assert!(rt; text.as_str() == "a%20b\n%\n");
+    Ok(())
+}
+
+#[test]
+fn a_struct_is_printed(rt: HostRuntime) -> Result<(), Fail> {
+    let alloc = rt.alloc();
+    let mut fields = Vec::new(alloc);
+    fields.push((String::from_str(alloc, "a")?, DType::Text(true)))?;
+    let pairs = DType::Struct(Fields::new(fields), false);
+    let bytes = b"\x04\x00\x03\x00\x01\x02\x00\x00\x00\x00\x02\x00\x00\x00hi";
+    let column = match decoded(alloc, bytes, &pairs, 2)? {
+        Ok(column) => column,
+        Err(_) => return Err(Fail::from("refused")),
+    };
+    if column.len() < 2 {
+        return Err(Fail::from("no rows"));
+    }
+    assert!(rt; row_text(alloc, &column, 0)?.as_str() == "(~)");
+    assert!(rt; row_text(alloc, &column, 1)?.as_str() == "(hi)");
     Ok(())
 }

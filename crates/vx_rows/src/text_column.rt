@@ -1,11 +1,16 @@
 //! Columns of texts.
-ghost use Rattle.std.specs.Prelude.{◌≡◌, ◌+◌, ◌<◌, ◌≤◌, ◌^◌, length, slice_index, slice_index_or, slice_range, is_some, IfOk, IfSome, Some, None, true, option_map};
+ghost use Rattle.std.specs.Prelude.{◌≡◌, ◌++◌, ◌+◌, ◌%◌, ◌<◌, ◌≤◌, ◌^◌, length, slice_index};
+ghost use Rattle.std.specs.Prelude.{slice_index_or, slice_range, is_some, IfOk, IfSome, Some, None, true, option_map, OnOk};
 ghost use Rattle.std.specs.Str.{IsUtf8};
 ghost use Rattle.vx_rows.specs.Span.{span};
 ghost use Rattle.vx_rows.specs.Columns.{text_row, AreRanges, AreTexts};
+ghost use Rattle.vx_rows.specs.Written.{text_bytes, length_bytes, texts_bytes};
+ghost use Rattle.std.specs.List.{flat_map};
+ghost use Rattle.std.specs.Int.{w32, to_le_bytes};
 
 use crate::Bits;
 use crate::int_column::has_value;
+use crate::presence::push_presence;
 use std::alloc::{AllocError, Global};
 use std::marker::Model;
 use vx_base::ByteBuffer;
@@ -21,7 +26,7 @@ pub struct TextColumn {
 }
 
 impl Model for TextColumn {
-    ghost use Rattle.std.specs.Prelude.{◌≡◌, ◌+◌, length, IfSome};
+    ghost use Rattle.std.specs.Prelude.{◌≡◌, ◌++◌, ◌+◌, ◌%◌, length, IfSome};
     ghost use Rattle.vx_rows.specs.Span.{span};
     ghost use Rattle.vx_rows.specs.Columns.{Texts, text_row, AreRanges, AreTexts};
 
@@ -54,6 +59,14 @@ fn text_between<'a>(bytes: &'a [u8], places: &[usize], rows: usize, row: usize) 
     let from = places[row];
     let to = places[row + 1];
     text_of(&bytes[from..to])
+}
+
+/// Adds the low 32 bits of a length. A greater one makes the array too long.
+fn push_length(bytes: &mut Vec<u8>, length: usize) -> Result<(), AllocError>
+    ensures { OnOk result (bytes.new.items ≡ bytes.old.items ++ to_le_bytes w32 length) }
+{
+    let low = (length % (1 << 32)) as u32;
+    bytes.extend_from_slice(&low.to_le_bytes())
 }
 
 impl TextColumn {
@@ -121,5 +134,65 @@ impl TextColumn {
     {
         let bytes = self.held.as_slice();
         text_between(bytes, &self.places, self.count, row)
+    }
+
+    /// The value of a row, if there is such a row and it has one.
+    #[inline(always)]
+    #[tactic(auto, using(crate::proofs::WrittenLemmas::row_values))]
+    pub fn get(&self, row: usize) -> Option<&str>
+        ensures { option_map (λ v. v.now) result ≡ slice_index_or self.now.rows row None }
+    {
+        if row >= self.len() {
+            return None;
+        }
+        if !self.is_present(row) {
+            return None;
+        }
+        Some(self.text_at(row))
+    }
+
+    /// The value of a row, or the empty text where it has none.
+    #[inline(always)]
+    fn text_or_empty(&self, row: usize) -> &str
+        requires { row < length self.now.rows }
+        ensures { result.now ≡ text_bytes (slice_index_or self.now.rows row None) }
+    {
+        if self.is_present(row) {
+            self.text_at(row)
+        } else {
+            ""
+        }
+    }
+
+    /// Adds the length of each text.
+    #[tactic(auto, using(crate::proofs::WrittenLemmas::next_row))]
+    fn push_lengths(&self, bytes: &mut Vec<u8>) -> Result<(), AllocError>
+        ensures { OnOk result (bytes.new.items ≡ bytes.old.items ++ flat_map length_bytes self.now.rows) }
+    {
+        for row in 0..self.len() {
+            push_length(bytes, self.text_or_empty(row).len())?;
+        }
+        Ok(())
+    }
+
+    /// Adds each text.
+    #[tactic(auto, using(crate::proofs::WrittenLemmas::next_row))]
+    fn push_texts(&self, bytes: &mut Vec<u8>) -> Result<(), AllocError>
+        ensures { OnOk result (bytes.new.items ≡ bytes.old.items ++ flat_map text_bytes self.now.rows) }
+    {
+        for row in 0..self.len() {
+            bytes.extend_from_slice(self.text_or_empty(row).as_bytes())?;
+        }
+        Ok(())
+    }
+
+    /// Adds the bytes of the rows.
+    pub(crate) fn push_bytes(&self, bytes: &mut Vec<u8>) -> Result<(), AllocError>
+        ensures { OnOk result (bytes.new.items ≡ bytes.old.items ++ texts_bytes self.now) }
+    {
+        push_presence(bytes, self.may_be_null, &self.present, self.count)?;
+        self.push_lengths(bytes)?;
+        self.push_texts(bytes)?;
+        Ok(())
     }
 }

@@ -1,6 +1,6 @@
 use Rattle.std.proofs.Common.{◌≡◌, ◌-◌}
 use Rattle.vx_rows.specs.Span.{every}
-use Rattle.vx_rows.specs.Arrays.{is_clear}
+use Rattle.vx_rows.specs.Columns.{is_clear}
 use Rattle.vx_rows.proofs.reading.are_clear.Given as goal
 
 abbrev pub invariant-loop-row : goal.invariant-loop-row

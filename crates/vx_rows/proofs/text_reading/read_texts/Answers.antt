@@ -1,8 +1,8 @@
 use Rattle.std.proofs.Common.{◌≡◌, ◌-◌, ◌*◌, ◌≤◌, nat_le, length, true, rules}
 use Rattle.vx_data.specs.declared.ptype.PType.TheVariants.{U32}
 use Rattle.vx_rows.specs.Span.{every}
-use Rattle.vx_rows.specs.Columns.{value_size, value_place}
-use Rattle.vx_rows.specs.Arrays.{is_clear, is_text, place_at, places_at}
+use Rattle.vx_rows.specs.Columns.{value_size, value_place, is_clear}
+use Rattle.vx_rows.specs.Arrays.{is_text, place_at, places_at}
 use Rattle.vx_rows.proofs.TextLemmas.{texts_found}
 use Rattle.vx_rows.proofs.text_reading.read_texts.Goals as goal
 
