@@ -1,6 +1,7 @@
 pub mod Aligned
 pub mod Asking
 pub mod Buffer
+pub mod Caches
 pub mod Checks
 pub mod Counts
 pub mod FaultName

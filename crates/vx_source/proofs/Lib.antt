@@ -1,0 +1,16 @@
+pub mod BlockLemmas
+pub mod BytesLemmas
+pub mod CutLemmas
+pub mod DriveLemmas
+pub mod EndLemmas
+pub mod FilingLemmas
+pub mod FreshLemmas
+pub mod JoinLemmas
+pub mod PendingLemmas
+pub mod PutLemmas
+pub mod RegisterLemmas
+pub mod SlotLemmas
+pub mod SpanLemmas
+pub mod StepLemmas
+pub mod TallyLemmas
+pub mod WordLemmas

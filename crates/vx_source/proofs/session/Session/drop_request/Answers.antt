@@ -1,0 +1,9 @@
+use Rattle.vx_source.proofs.BytesLemmas.{drops-bytes}
+use Rattle.vx_source.proofs.StepLemmas.{drops-next}
+use Rattle.vx_source.proofs.session.Session.drop_request.Goals as goal
+
+pub returns-clause-drops : goal.returns-clause-drops
+returns-clause-drops c = λ w past st. rw (c.drop_kept-reply.ensures.reply, c.drop_kept-reply.ensures.after) (drops-next w past c.args.self.now c.args.number st)
+
+pub returns-clause-bytes : goal.returns-clause-bytes
+returns-clause-bytes c = λ file h. rw c.drop_kept-reply.ensures.after (drops-bytes file c.args.self.now h c.args.number)

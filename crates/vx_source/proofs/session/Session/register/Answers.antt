@@ -1,0 +1,23 @@
+use Rattle.std.proofs.Common.{ℕ, ◌+◌, ◌≤◌, length, sym, ◌∙◌, subst, arith}
+use Rattle.vx_base.specs.Counts.{last_count}
+use Rattle.vx_source.specs.Caching.{HasGot}
+use Rattle.vx_source.specs.Kept.{got_of}
+use Rattle.vx_source.proofs.BytesLemmas.{looks-bytes}
+use Rattle.vx_source.proofs.StepLemmas.{registers-next, asked-is}
+use Rattle.vx_source.proofs.session.Session.register.Goals as goal
+
+pub returns-clause-registers : goal.returns-clause-registers
+returns-clause-registers g c = λ w past st.
+    let state = g.C.SegmentCache.state in
+    let requires = c.requires in
+    let room : length c.args.self.now.requests + 1 ≤ last_count = omega (arith, requires) in
+    record {
+      got = got_of c.in_ok-look.look;
+      cache = subst (λ asked. HasGot asked c.args.id.0 (state c.args.cache.now) (state c.look.new.cache) (got_of c.in_ok-look.look)) (asked-is w past c.args.self.now c.args.id.0 st room) c.in_ok-look.ensures.got;
+      next = rw (c.in_ok-reply.ensures.reply, c.in_ok-reply.ensures.after) (registers-next w past c.args.self.now c.args.id.0 st room c.in_ok-look.look c.in_ok-look.ensures.is);
+    }
+
+pub returns-clause-bytes : goal.returns-clause-bytes
+returns-clause-bytes g c = λ w past file st h slices.
+    rw c.in_ok-reply.ensures.after (looks-bytes file c.args.self.now c.args.id.0 (g.C.SegmentCache.state c.args.cache.now) c.in_ok-look.look h (st.places ∙ sym st.count)
+    c.in_ok-look.ensures.is c.in_ok-look.ensures.entry slices)

@@ -1,0 +1,60 @@
+-- When the bytes that a session keeps and answers are those of a file.
+use Rattle.std.specs.Prelude.{◌≡◌, ℕ, List, drop, Option, Some, None, slice_get}
+use Rattle.vx_base.specs.Buffer.{Buffer, bytes_at}
+use Rattle.vx_base.specs.Caches.{Segments, CacheState, buffer_of}
+use Rattle.vx_base.specs.declared.segment.SegmentSpec.{SegmentSpec}
+use Rattle.vx_source.specs.Fits.{World}
+use Rattle.vx_source.specs.History.{Moment, segment_of}
+use Rattle.vx_source.specs.Kept.{Kept, segment_at, bytes_of}
+use Rattle.vx_source.specs.declared.look.Look.{Look}
+use Rattle.vx_source.specs.declared.look.Look.TheVariants.{InCache}
+use Rattle.vx_source.specs.declared.reply.Reply.{Reply}
+use Rattle.vx_source.specs.declared.reply.Reply.TheVariants.{Ready}
+use Rattle.vx_source.specs.declared.request.Request.{Request}
+use Rattle.vx_source.specs.declared.request.Standing.{Standing}
+use Rattle.vx_source.specs.declared.request.Standing.TheVariants.{Held, Reads, Ended}
+use Rattle.vx_source.specs.declared.tail.Tail.{Tail}
+
+-- a buffer has the bytes of a segment
+abbrev pub IsSlice : List ℕ → List SegmentSpec → ℕ → Buffer → Type 0
+IsSlice file table s buffer = (spec : SegmentSpec) → slice_get table s ≡ Some spec → buffer.bytes ≡ bytes_at file spec.offset spec.length
+
+-- a tail is the end of a file
+abbrev pub IsEnd : List ℕ → Option Tail → Type 0
+IsEnd file tail = (t : Tail) → tail ≡ Some t → t.bytes.bytes ≡ drop t.start file
+
+-- a cache tells its entries, and each is the bytes of its segment
+pub record TellsSlices (file : List ℕ) (table : List SegmentSpec) (cache : CacheState) : Type 0 where
+  pub entries : Segments
+  pub told : cache.entries ≡ Some entries
+  pub slices : (s : ℕ) (buffer : Buffer) → buffer_of entries s ≡ Some buffer → IsSlice file table s buffer
+
+abbrev pub held_of : Standing → Option Buffer
+held_of (Held buffer) = Some buffer
+held_of (Reads r) = None
+held_of Ended = None
+
+abbrev pub held_in : Option Request → Option Buffer
+held_in None = None
+held_in (Some q) = held_of q.standing
+
+-- the bytes at hand for a request
+abbrev pub held_at : List Request → ℕ → Option Buffer
+held_at requests n = held_in (slice_get requests n)
+
+-- the bytes that a session keeps are those of a file: the tail is its end, and what requests hold and reads have are
+-- the bytes of their segments
+pub record HasBytes (file : List ℕ) (k : Kept) : Type 0 where
+  pub tail : IsEnd file k.tail
+  pub held : (n s : ℕ) (buffer : Buffer) → held_at k.requests n ≡ Some buffer → segment_at k.requests n ≡ Some s → IsSlice file k.table s buffer
+  pub reads : (r s : ℕ) (buffer : Buffer) → bytes_of k.reads r ≡ Some buffer → segment_at k.requests r ≡ Some s → IsSlice file k.table s buffer
+
+-- what is ready is the bytes of the number's segment
+abbrev pub IsTrueReply : List ℕ → World → List Moment → ℕ → Reply → Type 0
+IsTrueReply file w past n (Ready buffer) = (s : ℕ) → segment_of past n ≡ Some s → IsSlice file w.table s buffer
+IsTrueReply file w past n _ = Unit {0}
+
+-- what a cache gave is its entry
+abbrev pub IsEntry : ℕ → CacheState → Look → Type 0
+IsEntry s cache (InCache buffer) = (es : Segments) → cache.entries ≡ Some es → buffer_of es s ≡ Some buffer
+IsEntry s cache _ = Unit {0}

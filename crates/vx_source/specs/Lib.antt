@@ -1,0 +1,11 @@
+pub mod Asks
+pub mod Blocks
+pub mod Bytes
+pub mod Caching
+pub mod Drives
+pub mod Events
+pub mod Fits
+pub mod History
+pub mod Kept
+pub mod Puts
+pub mod Stands

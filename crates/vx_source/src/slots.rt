@@ -1,0 +1,64 @@
+//! Changes of one request or one read.
+ghost use Rattle.std.specs.Prelude.{◌≡◌, ◌+◌, ◌-◌, ◌++◌, ◌∷◌, [], Some, vec_len, vec_capacity};
+ghost use Rattle.vx_source.specs.Kept.{update, ended, one_more, one_less, marked};
+
+use crate::request::{Request, SharedRead, Standing};
+
+/// Ends a request.
+pub fn end_request(requests: &mut Vec<Request>, n: usize)
+    ensures { requests.new.items ≡ update ended requests.old.items n }
+{
+    if n >= requests.len() {
+        return;
+    }
+    let request = &mut requests[n];
+    request.standing = Standing::Ended;
+}
+
+/// A read has one request more.
+pub fn add_user(reads: &mut Vec<SharedRead>, r: usize)
+    ensures items { reads.new.items ≡ update one_more reads.old.items r }
+    ensures len { vec_len reads.new ≡ vec_len reads.old }
+    ensures capacity { vec_capacity reads.new ≡ vec_capacity reads.old }
+{
+    if r >= reads.len() {
+        return;
+    }
+    let read = &mut reads[r];
+    read.users = read.users.saturating_add(1);
+}
+
+/// A read has one request less. With the last one its bytes go.
+pub fn remove_user(reads: &mut Vec<SharedRead>, r: usize)
+    ensures { reads.new.items ≡ update one_less reads.old.items r }
+{
+    if r >= reads.len() {
+        return;
+    }
+    let read = &mut reads[r];
+    if read.users <= 1 {
+        read.bytes = None;
+    }
+    read.users = read.users.saturating_sub(1);
+}
+
+/// A read was polled.
+pub fn mark_polled(reads: &mut Vec<SharedRead>, r: usize)
+    ensures { reads.new.items ≡ update marked reads.old.items r }
+{
+    if r >= reads.len() {
+        return;
+    }
+    let read = &mut reads[r];
+    read.polled = true;
+}
+
+/// The newest read of a segment is another one.
+pub fn put_newest(newest: &mut Vec<Option<u64>>, s: usize, r: u64)
+    ensures { newest.new.items ≡ update (λ _. Some r) newest.old.items s }
+{
+    if s >= newest.len() {
+        return;
+    }
+    newest[s] = Some(r);
+}
