@@ -53,11 +53,7 @@ fn find_buffer(
 
 impl MemCache {
     /// A cache of these entries, whose calls at these places, from 0, fail. With no place it never fails.
-    pub fn new(
-        alloc: Global,
-        entries: Vec<(SegmentId, ByteBuffer)>,
-        fail: Vec<u64>,
-    ) -> MemCache
+    pub fn new(alloc: Global, entries: Vec<(SegmentId, ByteBuffer)>, fail: Vec<u64>) -> MemCache
         ensures { result ≡ record { entries = entries.items; puts = []; fail = fail.items; calls = 0; faults = 0; lost = 0 } }
     {
         MemCache {
