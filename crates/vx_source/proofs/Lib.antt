@@ -9,6 +9,7 @@ pub mod JoinLemmas
 pub mod PendingLemmas
 pub mod PutLemmas
 pub mod RegisterLemmas
+pub mod ScriptLemmas
 pub mod SlotLemmas
 pub mod SpanLemmas
 pub mod StepLemmas

@@ -13,6 +13,8 @@ mod slots;
 mod span;
 mod tail;
 mod telling;
+#[cfg(test)]
+mod tests;
 
 pub use law::law_of_sessions;
 pub use reply::{FailCause, Reply};
