@@ -38,9 +38,16 @@ fn row_is_clear(ptype: PType, present: &Option<Bits>, bytes: &[u8], at: usize, r
     has_value(present, row) || is_zero(ptype, bytes, place_of(ptype, at, row))
 }
 
-/// Whether each null row is 0.
+/// Whether each null row is 0. Each call is compiled for its type.
+#[inline(always)]
 #[tactic(auto, using(crate::proofs::SpanLemmas::every_step, crate::proofs::IntLemmas::place_inside, crate::proofs::IntLemmas::place_bound))]
-pub fn are_clear(ptype: PType, present: &Option<Bits>, bytes: &[u8], at: usize, rows: usize) -> bool
+fn rows_are_clear(
+    ptype: PType,
+    present: &Option<Bits>,
+    bytes: &[u8],
+    at: usize,
+    rows: usize,
+) -> bool
     requires inside { value_place ptype at rows ≤ length bytes.now }
     requires bound { length bytes.now < 2 ^ 63 }
     requires long { IfSome present.now (λ bits. length bits ≡ rows) }
@@ -52,6 +59,25 @@ pub fn are_clear(ptype: PType, present: &Option<Bits>, bytes: &[u8], at: usize, 
         }
     }
     true
+}
+
+/// Whether each null row is 0.
+pub fn are_clear(ptype: PType, present: &Option<Bits>, bytes: &[u8], at: usize, rows: usize) -> bool
+    requires inside { value_place ptype at rows ≤ length bytes.now }
+    requires bound { length bytes.now < 2 ^ 63 }
+    requires long { IfSome present.now (λ bits. length bits ≡ rows) }
+    ensures { result ≡ every (is_clear ptype present.now bytes.now at) 0 rows }
+{
+    match ptype {
+        PType::U8 => rows_are_clear(PType::U8, present, bytes, at, rows),
+        PType::U16 => rows_are_clear(PType::U16, present, bytes, at, rows),
+        PType::U32 => rows_are_clear(PType::U32, present, bytes, at, rows),
+        PType::U64 => rows_are_clear(PType::U64, present, bytes, at, rows),
+        PType::I8 => rows_are_clear(PType::I8, present, bytes, at, rows),
+        PType::I16 => rows_are_clear(PType::I16, present, bytes, at, rows),
+        PType::I32 => rows_are_clear(PType::I32, present, bytes, at, rows),
+        PType::I64 => rows_are_clear(PType::I64, present, bytes, at, rows),
+    }
 }
 
 /// Integers and the place after them.
