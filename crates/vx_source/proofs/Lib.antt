@@ -5,11 +5,14 @@ pub mod DriveLemmas
 pub mod EndLemmas
 pub mod FilingLemmas
 pub mod FreshLemmas
+pub mod FrontLemmas
 pub mod JoinLemmas
+pub mod KeepingLemmas
 pub mod PendingLemmas
 pub mod PutLemmas
 pub mod RegisterLemmas
 pub mod ScriptLemmas
+pub mod SettingLemmas
 pub mod SlotLemmas
 pub mod SpanLemmas
 pub mod StepLemmas

@@ -6,6 +6,8 @@ pub mod Drives
 pub mod Events
 pub mod Fits
 pub mod History
+pub mod Keeping
 pub mod Kept
 pub mod Puts
+pub mod Sources
 pub mod Stands

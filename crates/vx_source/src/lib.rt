@@ -2,12 +2,16 @@
 //! are harmless, and failed reads stay apart.
 #![tactic(auto)]
 
+mod buffer_source;
 mod filing;
+mod initial;
 mod law;
 mod look;
+mod lru_segments;
 mod putting;
 mod reply;
 mod request;
+mod segment_source;
 mod session;
 mod slots;
 mod span;
@@ -16,8 +20,12 @@ mod telling;
 #[cfg(test)]
 mod tests;
 
+pub use buffer_source::BufferSegmentSource;
+pub use initial::InitialReadSegmentCache;
 pub use law::law_of_sessions;
+pub use lru_segments::LruSegments;
 pub use reply::{FailCause, Reply};
+pub use segment_source::{SegmentSource, SourceError};
 pub use session::Session;
 pub use span::{Span, SpanOutcome};
 pub use tail::Tail;

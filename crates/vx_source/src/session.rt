@@ -171,6 +171,7 @@ impl Session {
     pub fn renew(&mut self, alloc: Global)
         ensures stands { (w : World) (past : List Moment) → Stands w past self.old → Stands w [] self.new }
         ensures bytes { (file : List ℕ) → HasBytes file self.old → HasBytes file self.new }
+        ensures settings { self.new.idle ≡ self.old.idle }
     {
         prove!(self.core.concurrency() >= 1);
         self.core = State::new(
@@ -506,6 +507,8 @@ impl Session {
             Registers w past id.0 (C.state cache.old) (C.state cache.new) reply self.new) }
         ensures bytes { OnOk result ((w : World) (past : List Moment) (file : List ℕ) → Stands w past self.old → HasBytes file self.old →
             TellsSlices file self.old.table (C.state cache.old) → HasBytes file self.new) }
+        ensures settings { self.new.idle ≡ self.old.idle }
+        ensures room { length self.new.requests ≤ length self.old.requests + 1 }
         ensures err { OnErr result (self.new ≡ self.old) }
         ensures same { SameCache (C.state cache.old) (C.state cache.new) }
     {
@@ -520,6 +523,7 @@ impl Session {
             IsNext w past (polls number) reply self.new) }
         ensures bytes { IfOk result (λ reply. (w : World) (past : List Moment) (file : List ℕ) → Stands w past self.old → HasBytes file self.old →
             IsTrueReply file w past number reply × HasBytes file self.new) }
+        ensures settings { self.new.idle ≡ self.old.idle }
         ensures err { OnErr result (self.new ≡ self.old) }
     {
         let reply = self.poll_kept(alloc, number)?;
@@ -530,6 +534,7 @@ impl Session {
     pub fn drop_request(&mut self, number: u64) -> Reply
         ensures drops { (w : World) (past : List Moment) → Stands w past self.old → IsNext w past (drops number) result self.new }
         ensures bytes { (file : List ℕ) → HasBytes file self.old → HasBytes file self.new }
+        ensures settings { self.new.idle ≡ self.old.idle }
     {
         let reply = self.drop_kept(number);
         reply
@@ -646,6 +651,7 @@ impl Session {
             StopsDrive w past (R.state reader.old).log (R.state reader.new).log (C.state cache.old) (C.state cache.new) self.new) }
         ensures puts { IfOk result (λ spans. (w : World) (past : List Moment) → Stands w past self.old →
             PutsBy past spans.items (C.state cache.old) (C.state cache.new)) }
+        ensures settings { self.new.idle ≡ self.old.idle }
         ensures same { SameReader (R.state reader.old) (R.state reader.new) }
         ensures same_cache { SameCache (C.state cache.old) (C.state cache.new) }
     {

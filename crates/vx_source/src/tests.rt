@@ -2,13 +2,17 @@
 ghost use Rattle.std.specs.Prelude.{◌≡◌, ◌+◌, ◌≤◌, Some, length};
 ghost use Rattle.vx_source.specs.declared.tail.Tail.{Tail};
 
-use crate::{FailCause, Reply, Session, SpanOutcome, Tail};
+use crate::{
+    BufferSegmentSource, FailCause, InitialReadSegmentCache, LruSegments, Reply, SegmentSource,
+    Session, SourceError, SpanOutcome, Tail,
+};
 use std::alloc::Global;
+use std::collections::BTreeMap;
 use std::process::Abort;
 use std::test::Fail;
 use vx_base::{
-    Alignment, ByteBuffer, MemCache, MemReader, Mischief, MischiefKind, Reader, SegmentId,
-    SegmentSpec, Sequence,
+    Alignment, ByteBuffer, MemCache, MemReader, Mischief, MischiefKind, Reader, SegmentCache,
+    SegmentId, SegmentSpec, Sequence,
 };
 
 // A step of a script.
@@ -277,4 +281,66 @@ fn the_tail_is_looked_at_before_the_cache(rt: HostRuntime) -> Result<(), Fail> {
         &mut cache,
         &rows,
     )
+}
+
+#[test]
+fn the_segment_that_was_used_least_recently_goes(rt: HostRuntime) -> Result<(), Fail> {
+    let mut cache = LruSegments::new(rt.alloc(), 2)?;
+    // A put of a segment, or a get of one that is there or is not.
+    let rows = [
+        (0u32, None),
+        (1, None),
+        (0, Some(true)),
+        (2, None),
+        (1, Some(false)),
+        (0, Some(true)),
+        (2, Some(true)),
+    ];
+    for (segment, held) in rows {
+        match held {
+            None => cache.put(rt.alloc(), SegmentId(segment), buffer(rt.alloc(), b"abcd")?)?,
+            Some(held) => {
+                assert!(rt; cache.get(rt.alloc(), SegmentId(segment))?.is_some() == held);
+            }
+        }
+    }
+    assert!(rt; cache.puts().len() == 3);
+    Ok(())
+}
+
+#[test]
+fn a_segment_of_the_initial_read_stays(rt: HostRuntime) -> Result<(), Fail> {
+    let mut initial = BTreeMap::new(rt.alloc());
+    initial.insert(SegmentId(0), buffer(rt.alloc(), b"abcd")?)?;
+    let fallback = LruSegments::new(rt.alloc(), 1)?;
+    let mut cache = InitialReadSegmentCache { initial, fallback };
+    for segment in [0u32, 1, 2] {
+        cache.put(rt.alloc(), SegmentId(segment), buffer(rt.alloc(), b"efgh")?)?;
+    }
+    let first = cache.get(rt.alloc(), SegmentId(0))?;
+    assert!(rt; first.is_some_and(|bytes| bytes.as_slice().first() == Some(&b'a')));
+    assert!(rt; cache.get(rt.alloc(), SegmentId(1))?.is_none());
+    assert!(rt; cache.get(rt.alloc(), SegmentId(2))?.is_some());
+    Ok(())
+}
+
+#[test]
+fn a_file_in_memory_gives_its_segments(rt: HostRuntime) -> Result<(), Fail> {
+    let segments = vec![in rt.alloc(); segment(0), segment(4), segment(5)]?;
+    let mut source = BufferSegmentSource::new(buffer(rt.alloc(), b"abcdefgh")?, segments);
+    let rows = [
+        (0u32, Ok(b'a')),
+        (1, Ok(b'e')),
+        (2, Err(SourceError::PastEnd)),
+        (3, Err(SourceError::MissingSegment)),
+    ];
+    for (id, want) in rows {
+        let meets = match (source.segment(rt.alloc(), SegmentId(id)), want) {
+            (Ok(bytes), Ok(first)) => bytes.as_slice().first() == Some(&first),
+            (Err(error), Err(other)) => error == other,
+            _ => false,
+        };
+        assert!(rt; meets);
+    }
+    Ok(())
 }

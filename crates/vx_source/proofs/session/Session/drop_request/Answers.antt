@@ -1,4 +1,5 @@
 use Rattle.vx_source.proofs.BytesLemmas.{drops-bytes}
+use Rattle.vx_source.proofs.SettingLemmas.{drop-idle}
 use Rattle.vx_source.proofs.StepLemmas.{drops-next}
 use Rattle.vx_source.proofs.session.Session.drop_request.Goals as goal
 
@@ -7,3 +8,6 @@ returns-clause-drops c = λ w past st. rw (c.drop_kept-reply.ensures.reply, c.dr
 
 pub returns-clause-bytes : goal.returns-clause-bytes
 returns-clause-bytes c = λ file h. rw c.drop_kept-reply.ensures.after (drops-bytes file c.args.self.now h c.args.number)
+
+pub returns-clause-settings : goal.returns-clause-settings
+returns-clause-settings c = rw c.drop_kept-reply.ensures.after (drop-idle c.args.self.now c.args.number)

@@ -1,4 +1,5 @@
 use Rattle.vx_source.proofs.BytesLemmas.{polls-bytes, ready-true}
+use Rattle.vx_source.proofs.SettingLemmas.{poll-idle}
 use Rattle.vx_source.proofs.StepLemmas.{polls-next}
 use Rattle.vx_source.proofs.session.Session.poll.Goals as goal
 
@@ -8,3 +9,6 @@ returns-clause-polls c = λ w past st. rw (c.in_ok-reply.ensures.reply, c.in_ok-
 pub returns-clause-bytes : goal.returns-clause-bytes
 returns-clause-bytes c = λ w past file st h.
     rw (c.in_ok-reply.ensures.reply, c.in_ok-reply.ensures.after) (ready-true file c.args.self.now h w past st c.args.number, polls-bytes file c.args.self.now h c.args.number)
+
+pub returns-clause-settings : goal.returns-clause-settings
+returns-clause-settings c = rw c.in_ok-reply.ensures.after (poll-idle c.args.self.now c.args.number)

@@ -3,6 +3,7 @@ use Rattle.vx_base.specs.Counts.{last_count}
 use Rattle.vx_source.specs.Caching.{HasGot}
 use Rattle.vx_source.specs.Kept.{got_of}
 use Rattle.vx_source.proofs.BytesLemmas.{looks-bytes}
+use Rattle.vx_source.proofs.SettingLemmas.{look-registered}
 use Rattle.vx_source.proofs.StepLemmas.{registers-next, asked-is}
 use Rattle.vx_source.proofs.session.Session.register.Goals as goal
 
@@ -21,3 +22,9 @@ pub returns-clause-bytes : goal.returns-clause-bytes
 returns-clause-bytes g c = λ w past file st h slices.
     rw c.in_ok-reply.ensures.after (looks-bytes file c.args.self.now c.args.id.0 (g.C.SegmentCache.state c.args.cache.now) c.in_ok-look.look h (st.places ∙ sym st.count)
     c.in_ok-look.ensures.is c.in_ok-look.ensures.entry slices)
+
+pub returns-clause-settings : goal.returns-clause-settings
+returns-clause-settings g c = rw c.in_ok-reply.ensures.after (look-registered c.args.self.now c.args.id.0 c.in_ok-look.look).idle
+
+pub returns-clause-room : goal.returns-clause-room
+returns-clause-room g c = rw c.in_ok-reply.ensures.after (look-registered c.args.self.now c.args.id.0 c.in_ok-look.look).room

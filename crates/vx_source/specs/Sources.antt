@@ -1,0 +1,60 @@
+-- What sources of segments tell, and what their calls answer.
+use Rattle.std.specs.Prelude.{◌≡◌, ℕ, ◌+◌, ◌≤◌, ◌<◌, nat_le, Bool, true, List, length, Option, Some, None, Result, Ok, Err, IfOk, OnOk, slice_get, if◌then◌else◌}
+use Rattle.vx_base.specs.Buffer.{Buffer, bytes_at}
+use Rattle.vx_base.specs.Counts.{Rises}
+use Rattle.vx_base.specs.declared.segment.SegmentSpec.{SegmentSpec}
+use Rattle.vx_sched.specs.declared.fault.Fault.{Fault}
+use Rattle.vx_source.specs.Bytes.{IsSlice}
+use Rattle.vx_source.specs.declared.segment_source.SourceError.{SourceError}
+use Rattle.vx_source.specs.declared.segment_source.SourceError.TheVariants as source_error
+
+-- A source of segments: the segment table; the bytes of the file, where they are told; whether a segment may pass the
+-- file's end; and its counts of faults of reads and of the cache.
+pub record SourceState : Type 0 where
+  pub table : List SegmentSpec
+  pub bytes : Option (List ℕ)
+  pub may_pass : Bool
+  pub faults : ℕ
+  pub cache_faults : ℕ
+
+-- no call changes what a source is, and its counts never fall
+pub record SameSource (before now : SourceState) : Type 0 where
+  pub table : now.table ≡ before.table
+  pub bytes : now.bytes ≡ before.bytes
+  pub may_pass : now.may_pass ≡ before.may_pass
+  pub never_falls : before.faults ≤ now.faults
+  pub cache_never_falls : before.cache_faults ≤ now.cache_faults
+
+-- What asking a source for a segment answers: the segment's bytes. A fault comes only where its count rose; a
+-- segment is missing only where the table has none with the number, and then nothing else but want of memory comes.
+pub record SegmentCause (segment : ℕ) (before now : SourceState) (found : Result Buffer SourceError) : Type 0 where
+  pub slice : IfOk found (λ buffer. (file : List ℕ) → before.bytes ≡ Some file → IsSlice file before.table segment buffer)
+  pub inside : OnOk found (segment < length before.table)
+  pub missing : found ≡ Err source_error.MissingSegment → length before.table ≤ segment
+  pub passes : found ≡ Err source_error.PastEnd → (before.may_pass ≡ true) × (segment < length before.table)
+  pub fault : (f : Fault) → found ≡ Err (source_error.Fault f) → Rises 1 before.faults now.faults × (segment < length before.table)
+  pub cache : found ≡ Err source_error.CacheFault → Rises 1 before.cache_faults now.cache_faults × (segment < length before.table)
+
+-- a file in memory, and its segments
+pub record FileInMemory : Type 0 where
+  pub buffer : Buffer
+  pub table : List SegmentSpec
+
+-- it tells its bytes, and never fails
+abbrev pub in_memory : FileInMemory → SourceState
+in_memory m = record { table = m.table; bytes = Some m.buffer.bytes; may_pass = true; faults = 0; cache_faults = 0 }
+
+abbrev pub cut_from : Buffer → Option SegmentSpec → Result Buffer SourceError
+cut_from buffer None = Err source_error.MissingSegment
+cut_from buffer (Some s) =
+    if nat_le (s.offset + s.length) (length buffer.bytes) then Ok (record { bytes = bytes_at buffer.bytes s.offset s.length; alignment = s.alignment })
+    else Err source_error.PastEnd
+
+-- a segment of a file in memory, or the first refusal
+abbrev pub segment_in : FileInMemory → ℕ → Result Buffer SourceError
+segment_in m segment = cut_from m.buffer (slice_get m.table segment)
+
+-- what an error tells: want of memory may come in place of any answer
+abbrev pub tells : SourceError → Result Buffer SourceError → Type 0
+tells source_error.OutOfMemory answer = Unit {0}
+tells error answer = answer ≡ Err error
