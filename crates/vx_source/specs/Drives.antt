@@ -43,7 +43,9 @@ pub record IsIdle (k now : Kept) (done done_now : List Span) (before after : Rea
 -- one turn of a drive: a whole block, and there may be more; or at most one block, and no polled read waits then
 pub record IsTurned (k now : Kept) (done done_now : List Span) (before after : ReaderState) (cache_before cache_after : CacheState) (more : Bool) : Type 0 where
   pub whole : more ≡ true → TakesBlock k now done done_now before after cache_before cache_after × (length done_now ≡ length done + k.core.concurrency)
-  pub last : more ≡ false → (IsIdle k now done done_now before after cache_before cache_after ⊎ TakesBlock k now done done_now before after cache_before cache_after) × NonePolled now.core.reads
+  pub last : more ≡ false →
+      (IsIdle k now done done_now before after cache_before cache_after ⊎ TakesBlock k now done done_now before after cache_before cache_after)
+      × NonePolled now.core.reads
 
 -- the log gained at most the ranges of one block, with any marks
 pub record IsLost (k : Kept) (before now : Option Log) : Type 0 where
