@@ -8,7 +8,7 @@ use Rattle.vx_base.specs.Buffer.{Buffer}
 use Rattle.vx_base.specs.Counts.{next_count}
 use Rattle.vx_base.specs.Mischiefs.{is_well_behaved, fails_size, fails_clone, answers_of}
 use Rattle.vx_base.specs.Openers.{OpenerState, Returned}
-use Rattle.vx_base.specs.Readers.{ReaderState}
+use Rattle.vx_base.specs.Readers.{ReaderState, ReaderSettings}
 use Rattle.vx_base.specs.Streams.{SourceState, SinkState}
 use Rattle.vx_base.specs.declared.answer.ReadAtRequest.{ReadAtRequest}
 use Rattle.vx_base.specs.declared.answer.RangeAnswer.{RangeAnswer}
@@ -153,9 +153,14 @@ pub record MemOpenerState : Type 0 where
 abbrev pub file_named : List ℕ → List (String Global × Buffer × Vec Mischief Global) → Option (String Global × Buffer × Vec Mischief Global)
 file_named name files = find (λ f. bytes_eq (string_bytes f.0) name) files
 
+-- a reader of a name has no distance, no read limit and a concurrency of 8
+abbrev pub plain_settings : ReaderSettings
+plain_settings = record { distance = None; max_read_size = None; concurrency = 8 }
+
 abbrev pub opener_state : MemOpenerState → OpenerState
 opener_state o = record {
   file = λ name. option_map (λ f. f.1.bytes) (file_named name o.files);
+  settings = λ _. plain_settings;
   never_fails = λ name. is_empty o.fail && option_map_or (λ f. is_well_behaved f.2.items) (file_named name o.files) false;
   asked = Some o.asked;
   returned = Some o.returned;

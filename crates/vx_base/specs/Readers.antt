@@ -25,6 +25,15 @@ pub record ReaderState : Type 0 where
   pub log : Option Log
   pub faults : ℕ
 
+-- the settings of a reader
+pub record ReaderSettings : Type 0 where
+  pub distance : Option ℕ
+  pub max_read_size : Option ℕ
+  pub concurrency : ℕ
+
+abbrev pub settings_of : ReaderState → ReaderSettings
+settings_of r = record { distance = r.distance; max_read_size = r.max_read_size; concurrency = r.concurrency }
+
 -- no call changes what a reader is, and its count of faults never falls
 pub record SameReader (before now : ReaderState) : Type 0 where
   pub bytes : now.bytes ≡ before.bytes

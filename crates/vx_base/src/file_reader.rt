@@ -159,9 +159,11 @@ impl<R: Files<File = File> + Drop> Opener for FileOpener<R> {
     type Reader = FileReader;
 
     ghost use Rattle.std.specs.Prelude.{None, false};
+    ghost use Rattle.vx_base.specs.Memory.{plain_settings};
 
     ghost state = { λ o. record {
       file = λ _. None;
+      settings = λ _. plain_settings;
       never_fails = λ _. false;
       asked = None;
       returned = None;
