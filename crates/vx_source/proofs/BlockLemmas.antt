@@ -1,32 +1,29 @@
 -- What a block of spans does.
-use Rattle.std.proofs.Common.{◌≡◌, ℕ, ◌+◌, ◌-◌, ◌<◌, ◌≤◌, Bool, true, false, cond, List, [], ◌∷◌, ◌++◌, length, map, Option, Some, None, refl, sym, ap, ◌∙◌, subst, arith, ◌==◌, ◌&&◌, ◌||◌, append_assoc}
-use Rattle.std.specs.Prelude.{slice_get, is_some}
+use Rattle.std.proofs.Common.{◌≡◌, ℕ, ◌≤◌, Bool, true, false, cond, List, [], ◌∷◌, ◌++◌, length, map, Option, Some, None, refl, sym, ap, ◌∙◌, subst, arith, ◌==◌, ◌||◌}
+use Rattle.std.specs.Prelude.{is_some}
 use Rattle.vx_base.specs.Buffer.{Buffer}
 use Rattle.vx_sched.specs.Io.{request_of as range_of}
 use Rattle.vx_sched.specs.Law.{IsSound}
 use Rattle.vx_sched.specs.Merging.{is_listed}
-use Rattle.vx_sched.specs.Metrics.{with_span, with_call}
+use Rattle.vx_sched.specs.Metrics.{with_call}
 use Rattle.vx_sched.specs.Outcomes.{IsOutcomeOf, AreOutcomesOf}
-use Rattle.vx_sched.specs.Reads.{ranges_in_flight}
 use Rattle.vx_sched.specs.Scheduling.{Scheduler, MergesFrom, MergesInTurn, MayTake, IsLegal, span_at, taken, all_taken, resolved, all_resolved, settled, replay}
 use Rattle.vx_sched.specs.Span as sched
-use Rattle.vx_sched.specs.declared.event.Event.{Event}
 use Rattle.vx_sched.specs.declared.event.Event.TheVariants as event
 use Rattle.vx_sched.specs.declared.fault.Fault.{Fault}
 use Rattle.vx_sched.specs.declared.fault.Outcome.{Outcome}
 use Rattle.vx_sched.specs.declared.fault.Outcome.TheVariants as out
-use Rattle.vx_sched.specs.declared.metrics.RequestMetrics.{RequestMetrics}
 use Rattle.vx_sched.specs.declared.request.ReadRequest.{ReadRequest}
-use Rattle.vx_sched.proofs.ChainLemmas.{all-fly, turn-apart, left-all, ranges-all, ranges-all-back, next-all, same-all}
+use Rattle.vx_sched.proofs.ChainLemmas.{all-fly, turn-apart, left-all, ranges-all, ranges-all-back, next-all}
 use Rattle.vx_sched.proofs.ChainLemmas.{resolves as resolves-legal}
 use Rattle.vx_sched.proofs.LawRuns.{sound-run}
 use Rattle.vx_sched.proofs.SoundLemmas.{sound-all_taken}
-use Rattle.vx_source.specs.Blocks.{number_of, reported, span_outcome, reports_of, filed_good, filed_bad, filed_by, filed_of, with_filed, file_reads, with_cores, after_block}
-use Rattle.vx_source.specs.Events.{told_block, with_spans}
+use Rattle.vx_source.specs.Blocks.{reported, span_outcome, reports_of, filed_good, filed_bad, filed_by, filed_of, with_filed, file_reads, with_cores, after_block}
+use Rattle.vx_source.specs.Events.{told_block}
 use Rattle.vx_source.specs.Fits.{World, NamesRange}
-use Rattle.vx_source.specs.History.{first_of, outcome_by, outcome_after, is_good, is_bad}
-use Rattle.vx_source.specs.Kept.{Kept, update, users_in, users_at, polled_in, polled_at, outcome_at, bytes_in, bytes_of}
-use Rattle.vx_source.specs.Stands.{Words, HasWords, Ties, users_of, is_due, waiting}
+use Rattle.vx_source.specs.History.{first_of, outcome_after, is_good, is_bad}
+use Rattle.vx_source.specs.Kept.{Kept, update, users_in, users_at, polled_in, polled_at, outcome_at, bytes_of}
+use Rattle.vx_source.specs.Stands.{Words, HasWords, users_of, is_due, waiting}
 use Rattle.vx_source.specs.declared.filing.Filed.{Filed}
 use Rattle.vx_source.specs.declared.request.SharedRead.{SharedRead}
 use Rattle.vx_source.specs.declared.span.Span.{Span}

@@ -1,11 +1,13 @@
 -- The bytes that a session keeps.
-use Rattle.std.proofs.Common.{◌≡◌, ◌≢◌, ℕ, zero, suc, ◌+◌, ◌-◌, ◌<◌, ◌≤◌, Bool, true, false, cond, List, [], ◌∷◌, ◌++◌, length, map, take, drop, Option, Some, None, refl, sym, ap, ◌∙◌, subst, arith, ◌==◌, ◌⊎◌, inl, inr}
-use Rattle.std.specs.Prelude.{slice_get, nat_le, option_and_then}
+use Rattle.std.proofs.Common.{◌≡◌, ℕ, zero, suc, ◌+◌, ◌-◌, ◌≤◌, Bool, true, false, cond, List, [], ◌∷◌, ◌++◌, length, map, take, drop, Option, Some, None, refl, sym, ap, ◌∙◌, subst, arith, ◌==◌, ◌⊎◌, inl, inr}
+use Rattle.std.specs.Prelude.{slice_get, nat_le, option_and_then, ◌&&◌, not, is_none, is_some}
 use Rattle.std.specs.List.{AllByRecursion}
 use Rattle.std.specs.Option.{option_map, option_map_or}
 use Rattle.std.proofs.lemmas.Bool.{eqb-true, eqb-false, leb-true}
 use Rattle.vx_base.specs.Buffer.{Buffer, bytes_at}
-use Rattle.vx_base.specs.Caches.{CacheState}
+use Rattle.vx_base.specs.Caches.{Segments, CacheState, OldEntries}
+use Rattle.vx_source.specs.Puts.{Gains, IsPut, put_at, puts_of}
+use Rattle.vx_source.proofs.PutLemmas.{told-some, put-split}
 use Rattle.vx_base.specs.declared.segment.SegmentSpec.{SegmentSpec}
 use Rattle.vx_base.specs.Aligned.{align_down}
 use Rattle.vx_sched.specs.Io.{request_of as range_of}
@@ -20,16 +22,15 @@ use Rattle.vx_sched.specs.declared.fault.Outcome.TheVariants as out
 use Rattle.vx_sched.specs.declared.request.ReadRequest.{ReadRequest}
 use Rattle.vx_sched.proofs.BatchLemmas.{within-range}
 use Rattle.vx_source.specs.Blocks.{reported, span_outcome, cut_of, filed_good, filed_bad, filed_by, filed_of, with_filed, file_into, file_reads, after_block}
-use Rattle.vx_source.specs.Bytes.{IsSlice, HasBytes, TellsSlices, IsEntry, IsTrueReply, held_of, held_in, held_at}
-use Rattle.vx_source.specs.Fits.{World, covered_from, read_request}
-use Rattle.vx_source.specs.History.{Moment}
+use Rattle.vx_source.specs.Bytes.{IsSlice, IsSegment, IsHeld, HasBytes, TellsSlices, IsEntry, IsTrueReply, held_of, held_in, held_at}
+use Rattle.vx_source.specs.Fits.{World, covered_from, covers, read_request}
+use Rattle.vx_source.specs.History.{Moment, is_held}
 use Rattle.vx_source.specs.Kept.{Kept, update, ended, one_less, one_more, marked, unused, begun, with_held, with_joined, with_begun, with_registered, with_found, IsCut, IsLook, tail_start, after_look, joinable_at, without_user, without_held, with_poll, standing_of, standing_in, standing_at, segment_at, bytes_in, bytes_of, reply_good, reply_outcome, reply_read, reply_of_standing, reply_standing, poll_reply, after_good, after_outcome, after_read, after_standing, after_found, after_poll, drop_standing, after_drop}
 use Rattle.vx_source.specs.Stands.{Words, Stands, HasWords, words, waiting, request_of}
 use Rattle.vx_source.specs.Stands.{waits as waits_of}
 use Rattle.vx_source.specs.declared.filing.Filed.{Filed}
 use Rattle.vx_source.specs.declared.look.Look.{Look}
 use Rattle.vx_source.specs.declared.look.Look.TheVariants.{Missing, InTail, InCache, CacheFailed, Nowhere}
-use Rattle.vx_source.specs.declared.reply.Reply.{Reply}
 use Rattle.vx_source.specs.declared.reply.Reply.TheVariants.{Ready}
 use Rattle.vx_source.specs.declared.request.Request.{Request}
 use Rattle.vx_source.specs.declared.request.SharedRead.{SharedRead}
@@ -38,7 +39,7 @@ use Rattle.vx_source.specs.declared.request.Standing.TheVariants.{Held, Reads, E
 use Rattle.vx_source.specs.declared.span.SpanOutcome.{SpanOutcome}
 use Rattle.vx_source.specs.declared.span.SpanOutcome.TheVariants.{Good, Bad}
 use Rattle.vx_source.specs.declared.tail.Tail.{Tail}
-use Rattle.vx_source.proofs.SlotLemmas.{get-push_last, get-push_other, get-past, get-some, get-update_same, get-update_other, length-update}
+use Rattle.vx_source.proofs.SlotLemmas.{get-push_last, get-push_other, get-update_same, get-update_other, length-update}
 use Rattle.vx_source.proofs.WordLemmas.{live-of}
 use Rattle.vx_source.proofs.BlockLemmas.{follows}
 use Rattle.vx_source.proofs.SpanLemmas.{Follows, with_outcome, follows-taken, asks-self}
@@ -87,6 +88,25 @@ segment-ended requests i n = at (n == i) refl
         ap (segment_at (update ended requests i)) same ∙ ap (option_map (λ (q : Request). q.segment)) (get-update_same ended requests i)
         ∙ ended-segment (slice_get requests i) ∙ ap (segment_at requests) (sym same)
     at false is = ap (option_map (λ (q : Request). q.segment)) (get-update_other ended requests i n (eqb-false n i is))
+
+-- a segment has its bytes
+pub segment-slice : (file : List ℕ) (table : List SegmentSpec) (s : ℕ) (b : Buffer) → IsSegment file table s b → IsSlice file table s b
+segment-slice file table s b i spec found = ap (λ (x : Buffer). x.bytes) (i spec found)
+
+held-standing : (x : Standing) (b : Buffer) → held_of x ≡ Some b → standing_of x ≡ Some None
+held-standing (Held c) b e = refl
+held-standing (Reads r) b e = cc
+held-standing Ended b e = cc
+
+held-stands : (o : Option Request) (b : Buffer) → held_in o ≡ Some b → standing_in o ≡ Some None
+held-stands None b e = cc
+held-stands (Some q) b e = held-standing q.standing b e
+
+-- what is held though not given by a cache is covered
+covered-held : (h c : Bool) → h ≡ true → (h && not c) ≡ false → c ≡ true
+covered-held true true e f = refl
+covered-held true false e f = let clash : true ≡ false = f in cc
+covered-held false c e f = let clash : false ≡ true = e in cc
 
 module _ (file : List ℕ) (k : Kept) (h : HasBytes file k) where
   -- ---- polls and drops
@@ -146,14 +166,25 @@ module _ (file : List ℕ) (k : Kept) (h : HasBytes file k) where
     slice-along : (s : ℕ) (b : Buffer) → IsSlice file k.table s b → IsSlice file w.table s b
     slice-along s b i = subst (λ t. IsSlice file t s b) st.table i
 
+    segment-along : (s : ℕ) (b : Buffer) → IsSegment file k.table s b → IsSegment file w.table s b
+    segment-along s b i = subst (λ t. IsSegment file t s b) st.table i
+
+    covers-is : (s : ℕ) → option_map_or (covered_from (tail_start k.tail)) (slice_get k.table s) false ≡ covers w s
+    covers-is s = ap (λ t. option_map_or (covered_from t) (slice_get k.table s) false) st.start ∙ ap (λ ts. option_map_or (covered_from w.start) (slice_get ts s) false) st.table
+
     ready-held : (o : Option Request) → slice_get k.requests n ≡ o → (b : Buffer) → held_in o ≡ Some b → IsTrueReply file w past n (Ready b)
-    ready-held o e b is = λ s of. slice-along s b (h.held n s b (ap held_in e ∙ is) (st.segment n ∙ of))
+    ready-held o e b is = λ s of.
+        let there = h.held n s b (ap held_in e ∙ is) (st.segment n ∙ of) in
+        let stands = ap standing_in e ∙ held-stands o b is in
+        let held : is_held past n ≡ true = st.known.held n s of ∙ ap is_none (live-of w (words w past) k st n None stands).1 in
+        (slice-along s b there.slice, λ free. segment-along s b (there.own (covers-is s ∙ covered-held (is_held past n) (covers w s) held free)))
 
     ready-good : (r : ℕ) → standing_at k.requests n ≡ Some (Some r) → (x : SharedRead) → slice_get k.reads r ≡ Some x → (o : Option Buffer) → x.bytes ≡ o → IsTrueReply file w past n (reply_good o)
     ready-good r stands x e None is = tt
     ready-good r stands x e (Some b) is = λ s of.
         let read = (live-of w (words w past) k st n (Some r) stands).1 in
-        slice-along s b (h.reads r s b (ap bytes_in e ∙ is) (st.segment r ∙ st.known.shared n r s read of))
+        let there = h.reads r s b (ap bytes_in e ∙ is) (st.segment r ∙ st.known.shared n r s read of) in
+        (slice-along s b (segment-slice file k.table s b there), λ free. segment-along s b there)
 
     ready-outcome : (r : ℕ) → standing_at k.requests n ≡ Some (Some r) → (x : SharedRead) → slice_get k.reads r ≡ Some x → (o : Option SpanOutcome) → IsTrueReply file w past n (reply_outcome o x.bytes)
     ready-outcome r stands x e None = tt
@@ -178,28 +209,28 @@ module _ (file : List ℕ) (k : Kept) (h : HasBytes file k) where
 
   -- ---- registers
   module _ (places : length k.reads ≡ length k.requests) (s : ℕ) where
-    push-held : (x : Standing) (n t : ℕ) (b : Buffer) → ((b : Buffer) → held_of x ≡ Some b → IsSlice file k.table s b)
-        → held_at (k.requests ++ record { segment = s; standing = x } ∷ []) n ≡ Some b → segment_at (k.requests ++ record { segment = s; standing = x } ∷ []) n ≡ Some t → IsSlice file k.table t b
+    push-held : (x : Standing) (n t : ℕ) (b : Buffer) → ((b : Buffer) → held_of x ≡ Some b → IsHeld file k.table k.tail s b)
+        → held_at (k.requests ++ record { segment = s; standing = x } ∷ []) n ≡ Some b → segment_at (k.requests ++ record { segment = s; standing = x } ∷ []) n ≡ Some t → IsHeld file k.table k.tail t b
     push-held x n t b own e is = at (n == length k.requests) refl
       where
-        at : (c : Bool) → (n == length k.requests) ≡ c → IsSlice file k.table t b
+        at : (c : Bool) → (n == length k.requests) ≡ c → IsHeld file k.table k.tail t b
         at true same =
             let here = eqb-true n (length k.requests) same in
             let last = get-push_last k.requests (record { segment = s; standing = x }) in
             let mine : held_of x ≡ Some b = sym (ap held_in last) ∙ ap (held_at (k.requests ++ record { segment = s; standing = x } ∷ [])) (sym here) ∙ e in
             let segment : Some s ≡ Some t = sym (ap (option_map (λ (q : Request). q.segment)) last) ∙ ap (segment_at (k.requests ++ record { segment = s; standing = x } ∷ [])) (sym here) ∙ is in
             let same_segment : s ≡ t = cc in
-            subst (λ m. IsSlice file k.table m b) same_segment (own b mine)
+            subst (λ m. IsHeld file k.table k.tail m b) same_segment (own b mine)
         at false other =
             let there = get-push_other k.requests (record { segment = s; standing = x }) n (eqb-false n (length k.requests) other) in
             h.held n t b (sym (ap held_in there) ∙ e) (sym (ap (option_map (λ (q : Request). q.segment)) there) ∙ is)
 
     push-reads : (reads : List SharedRead) (y : SharedRead) (x : Standing) (r t : ℕ) (b : Buffer) → length reads ≡ length k.requests → y.bytes ≡ None
         → ((q : ℕ) (b : Buffer) → bytes_of reads q ≡ Some b → bytes_of k.reads q ≡ Some b)
-        → bytes_of (reads ++ y ∷ []) r ≡ Some b → segment_at (k.requests ++ record { segment = s; standing = x } ∷ []) r ≡ Some t → IsSlice file k.table t b
+        → bytes_of (reads ++ y ∷ []) r ≡ Some b → segment_at (k.requests ++ record { segment = s; standing = x } ∷ []) r ≡ Some t → IsSegment file k.table t b
     push-reads reads y x r t b same none less e is = at (r == length k.requests) refl
       where
-        at : (c : Bool) → (r == length k.requests) ≡ c → IsSlice file k.table t b
+        at : (c : Bool) → (r == length k.requests) ≡ c → IsSegment file k.table t b
         at true here =
             let last = eqb-true r (length k.requests) here ∙ sym same in
             let clash : None ≡ Some b = sym none ∙ sym (ap bytes_in (get-push_last reads y)) ∙ ap (bytes_of (reads ++ y ∷ [])) (sym last) ∙ e in
@@ -210,10 +241,10 @@ module _ (file : List ℕ) (k : Kept) (h : HasBytes file k) where
             let old = get-push_other reads y r (λ q. ne (q ∙ same)) in
             h.reads r t b (less r b (sym (ap bytes_in old) ∙ e)) (sym (ap (option_map (λ (q : Request). q.segment)) there) ∙ is)
 
-    hold-bytes : (buffer : Buffer) → IsSlice file k.table s buffer → HasBytes file (with_held k s buffer)
+    hold-bytes : (buffer : Buffer) → IsHeld file k.table k.tail s buffer → HasBytes file (with_held k s buffer)
     hold-bytes buffer own = record {
       tail = h.tail;
-      held = λ n t b e is. push-held (Held buffer) n t b (λ c same. let mine : buffer ≡ c = cc in subst (IsSlice file k.table s) mine own) e is;
+      held = λ n t b e is. push-held (Held buffer) n t b (λ c same. let mine : buffer ≡ c = cc in subst (IsHeld file k.table k.tail s) mine own) e is;
       reads = λ r t b e is. push-reads k.reads unused (Held buffer) r t b places refl (λ q c f. f) e is;
     }
 
@@ -241,7 +272,7 @@ module _ (file : List ℕ) (k : Kept) (h : HasBytes file k) where
     found-bytes (Some spec) = registered-bytes spec (joinable_at k s)
 
     -- a register, where what was found is the segment's bytes
-    pub registers-bytes : (look : Look) → ((b : Buffer) → look ≡ InTail b → IsSlice file k.table s b) → ((b : Buffer) → look ≡ InCache b → IsSlice file k.table s b) → HasBytes file (after_look k s look)
+    pub registers-bytes : (look : Look) → ((b : Buffer) → look ≡ InTail b → IsHeld file k.table k.tail s b) → ((b : Buffer) → look ≡ InCache b → IsHeld file k.table k.tail s b) → HasBytes file (after_look k s look)
     registers-bytes Missing tail cache = h
     registers-bytes (InTail b) tail cache = hold-bytes b (tail b refl)
     registers-bytes (InCache b) tail cache = hold-bytes b (cache b refl)
@@ -291,9 +322,9 @@ part-end file start offset length from =
 
 -- ---- blocks
 
--- what a span gives a read is its segment's bytes
+-- what a span gives a read is its segment
 abbrev pub IsTrueFiled : List ℕ → Kept → Filed → Type 0
-IsTrueFiled file k f = (s : ℕ) (b : Buffer) → f.bytes ≡ Some b → segment_at k.requests f.read ≡ Some s → IsSlice file k.table s b
+IsTrueFiled file k f = (s : ℕ) (b : Buffer) → f.bytes ≡ Some b → segment_at k.requests f.read ≡ Some s → IsSegment file k.table s b
 
 abbrev pub AllTrue : List ℕ → Kept → List Filed → Type 0
 AllTrue file k [] = Unit {0}
@@ -312,11 +343,11 @@ module _ (file : List ℕ) (k : Kept) where
   filed-in f None b e = inl e
   filed-in f (Some x) b e = into-bytes f x x.outcome b e
 
-  one-true : (f : Filed) (reads : List SharedRead) → IsTrueFiled file k f → ((r s : ℕ) (b : Buffer) → bytes_of reads r ≡ Some b → segment_at k.requests r ≡ Some s → IsSlice file k.table s b)
-      → (r s : ℕ) (b : Buffer) → bytes_of (update (with_filed f) reads f.read) r ≡ Some b → segment_at k.requests r ≡ Some s → IsSlice file k.table s b
+  one-true : (f : Filed) (reads : List SharedRead) → IsTrueFiled file k f → ((r s : ℕ) (b : Buffer) → bytes_of reads r ≡ Some b → segment_at k.requests r ≡ Some s → IsSegment file k.table s b)
+      → (r s : ℕ) (b : Buffer) → bytes_of (update (with_filed f) reads f.read) r ≡ Some b → segment_at k.requests r ≡ Some s → IsSegment file k.table s b
   one-true f reads own old r s b e is = at (r == f.read) refl
     where
-      at : (c : Bool) → (r == f.read) ≡ c → IsSlice file k.table s b
+      at : (c : Bool) → (r == f.read) ≡ c → IsSegment file k.table s b
       at true same =
           let here = eqb-true r f.read same in
           let now : bytes_in (option_map (with_filed f) (slice_get reads f.read)) ≡ Some b =
@@ -325,8 +356,8 @@ module _ (file : List ℕ) (k : Kept) where
           elim (filed-in f (slice_get reads f.read) b now) [ inl before ↦ old f.read s b before segment | inr filed ↦ own s b filed segment ]
       at false other = old r s b (sym (ap bytes_in (get-update_other (with_filed f) reads f.read r (eqb-false r f.read other))) ∙ e) is
 
-  files-true : (fs : List Filed) (reads : List SharedRead) → AllTrue file k fs → ((r s : ℕ) (b : Buffer) → bytes_of reads r ≡ Some b → segment_at k.requests r ≡ Some s → IsSlice file k.table s b)
-      → (r s : ℕ) (b : Buffer) → bytes_of (file_reads reads fs) r ≡ Some b → segment_at k.requests r ≡ Some s → IsSlice file k.table s b
+  files-true : (fs : List Filed) (reads : List SharedRead) → AllTrue file k fs → ((r s : ℕ) (b : Buffer) → bytes_of reads r ≡ Some b → segment_at k.requests r ≡ Some s → IsSegment file k.table s b)
+      → (r s : ℕ) (b : Buffer) → bytes_of (file_reads reads fs) r ≡ Some b → segment_at k.requests r ≡ Some s → IsSegment file k.table s b
   files-true [] reads all old = old
   files-true (f ∷ fs) reads all old = files-true fs (update (with_filed f) reads f.read) all.1 (one-true f reads all.0 old)
 
@@ -346,12 +377,12 @@ merges-within distance limit alignment next waiting core m =
         down x = omega arith
 
 module _ (file : List ℕ) (w : World) (k : Kept) where
-  asks-spec : (r : ReadRequest) (o : Option SegmentSpec) (spec : SegmentSpec) → option_map (read_request r.id) o ≡ Some r → o ≡ Some spec → (r.offset ≡ spec.offset) × (r.length ≡ spec.length)
+  asks-spec : (r : ReadRequest) (o : Option SegmentSpec) (spec : SegmentSpec) → option_map (read_request r.id) o ≡ Some r → o ≡ Some spec → r ≡ read_request r.id spec
   asks-spec r None spec e is = cc
   asks-spec r (Some x) spec e is =
       let same : x ≡ spec = cc in
       let made : read_request r.id x ≡ r = cc in
-      (sym (ap (λ (q : ReadRequest). q.offset) made) ∙ ap (λ (y : SegmentSpec). y.offset) same, sym (ap (λ (q : ReadRequest). q.length) made) ∙ ap (λ (y : SegmentSpec). y.length) same)
+      sym made ∙ ap (read_request r.id) same
 
   module _ (v : Words) (same : (n s : ℕ) → segment_at k.requests n ≡ Some s → v.segment n ≡ Some s) (tables : k.table ≡ w.table) where
     span-true : (s : Scheduler) (core : sched.Span) (buffer : Buffer) → ((q : ℕ) → waiting_at s.reads q ≡ waiting w v q)
@@ -366,9 +397,10 @@ module _ (file : List ℕ) (w : World) (k : Kept) where
           let mine : cut_of core buffer r ≡ b = cc in
           let from = within.0.from in
           let upto = within.0.upto in
-          sym (ap (λ (x : Buffer). x.bytes) mine) ∙ ap (λ bs. bytes_at bs (r.offset - core.start) r.length) whole
-          ∙ part-part file core.start (core.end - core.start) r.offset r.length from (omega (arith, from, upto))
-          ∙ ap (λ n. bytes_at file n r.length) place.0 ∙ ap (bytes_at file spec.offset) place.1),
+          let bytes : bytes_at buffer.bytes (r.offset - core.start) r.length ≡ bytes_at file r.offset r.length =
+          ap (λ bs. bytes_at bs (r.offset - core.start) r.length) whole ∙ part-part file core.start (core.end - core.start) r.offset r.length from (omega (arith, from, upto)) in
+          sym mine ∙ ap (λ bs. let x : Buffer = record { bytes = bs; alignment = r.alignment } in x) bytes
+          ∙ ap (λ (q : ReadRequest). let x : Buffer = record { bytes = bytes_at file q.offset q.length; alignment = q.alignment } in x) place),
       span-true s core buffer waits whole rs h.1 within.1,
     )
 
@@ -401,18 +433,71 @@ block-bytes file w v k cores outcomes st may places bytes h = record {
 
 -- ---- what a register finds
 
-pub cut-slice : (file : List ℕ) (k : Kept) (s : ℕ) (b : Buffer) → HasBytes file k → IsLook k s (InTail b) → IsSlice file k.table s b
-cut-slice file k s b h l spec found = at k.tail refl (subst (λ o. option_map_or (covered_from (tail_start k.tail)) o false ≡ true) found l.1) (l.2 spec found)
+cut-segment : (file : List ℕ) (k : Kept) (s : ℕ) (b : Buffer) → HasBytes file k → IsLook k s (InTail b) → IsSegment file k.table s b
+cut-segment file k s b h l spec found = at k.tail refl (subst (λ o. option_map_or (covered_from (tail_start k.tail)) o false ≡ true) found l.1) (l.2 spec found)
   where
-    at : (t : Option Tail) → k.tail ≡ t → covered_from (tail_start t) spec ≡ true → IsCut t spec b → b.bytes ≡ bytes_at file spec.offset spec.length
+    at : (t : Option Tail) → k.tail ≡ t → covered_from (tail_start t) spec ≡ true → IsCut t spec b → b ≡ record { bytes = bytes_at file spec.offset spec.length; alignment = spec.alignment }
     at None e c cut = absurd cut
     at (Some t) e c cut =
-        ap (λ (x : Buffer). x.bytes) cut ∙ ap (λ bs. bytes_at bs (spec.offset - t.start) spec.length) (h.tail t e) ∙ part-end file t.start spec.offset spec.length (leb-true t.start spec.offset c)
+        cut ∙ ap (λ bs. let x : Buffer = record { bytes = bs; alignment = spec.alignment } in x)
+        (ap (λ bs. bytes_at bs (spec.offset - t.start) spec.length) (h.tail t e) ∙ part-end file t.start spec.offset spec.length (leb-true t.start spec.offset c))
+
+cut-held : (file : List ℕ) (k : Kept) (s : ℕ) (b : Buffer) → HasBytes file k → IsLook k s (InTail b) → IsHeld file k.table k.tail s b
+cut-held file k s b h l =
+    let own = cut-segment file k s b h l in
+    record { slice = segment-slice file k.table s b own; own = λ _. own }
+
+cached-held : (file : List ℕ) (k : Kept) (s : ℕ) (b : Buffer) → IsLook k s (InCache b) → IsSlice file k.table s b → IsHeld file k.table k.tail s b
+cached-held file k s b l slice = record { slice = slice; own = λ c. absurd (let clash : true ≡ false = sym c ∙ l.1 in cc) }
 
 -- a register keeps the bytes of the file
 pub looks-bytes : (file : List ℕ) (k : Kept) (s : ℕ) (cache : CacheState) (look : Look) → HasBytes file k → length k.reads ≡ length k.requests → IsLook k s look → IsEntry s cache look
     → TellsSlices file k.table cache → HasBytes file (after_look k s look)
 looks-bytes file k s cache look h places is entry slices =
     registers-bytes file k h places s look
-    (λ b e. cut-slice file k s b h (subst (IsLook k s) e is))
-    (λ b e. slices.slices s b (subst (IsEntry s cache) e entry slices.entries slices.told))
+    (λ b e. cut-held file k s b h (subst (IsLook k s) e is))
+    (λ b e. cached-held file k s b (subst (IsLook k s) e is) (slices.slices s b (subst (IsEntry s cache) e entry slices.entries slices.told)))
+
+-- ---- what a cache tells
+
+-- a cache that lost entries at most still tells slices
+pub old-slices : (file : List ℕ) (table : List SegmentSpec) (before now : CacheState) → OldEntries before.entries now.entries → is_some now.entries ≡ is_some before.entries
+    → TellsSlices file table before → TellsSlices file table now
+old-slices file table before now from tells t =
+    let now_told = told-some before.entries now.entries t.entries (sym tells) t.told in
+    record { entries = now_told.0; told = now_told.1; slices = λ s b e. t.slices s b (from t.entries now_told.0 s b t.told now_told.1 e) }
+
+put-slice : (file : List ℕ) (table : List SegmentSpec) (t : Option ℕ) (o : Option Buffer) → ((s : ℕ) (b : Buffer) → o ≡ Some b → t ≡ Some s → IsSegment file table s b)
+    → (q : ℕ) (b : Buffer) → IsPut (put_at t o) q b → IsSlice file table q b
+put-slice file table None o own q b h = absurd h
+put-slice file table (Some s) None own q b h = absurd h
+put-slice file table (Some s) (Some c) own q b (inl h) = rw (h.0, h.1) (segment-slice file table s c (own s c refl refl))
+put-slice file table (Some s) (Some c) own q b (inr h) = absurd h
+
+puts-slices : (file : List ℕ) (k : Kept) (fs : List Filed) → AllTrue file k fs → (q : ℕ) (b : Buffer) → IsPut (puts_of k.requests fs) q b → IsSlice file k.table q b
+puts-slices file k [] all q b h = absurd h
+puts-slices file k (f ∷ fs) all q b h =
+    elim (put-split (put_at (segment_at k.requests f.read) f.bytes) (puts_of k.requests fs) q b h) [
+      | inl one ↦ put-slice file k.table (segment_at k.requests f.read) f.bytes (λ s c e is. all.0 s c e is) q b one
+      | inr more ↦ puts-slices file k fs all.1 q b more
+    ]
+
+-- a cache that gained slices still tells slices
+pub gained-slices : (file : List ℕ) (table : List SegmentSpec) (puts : Segments) (before now : CacheState) → Gains puts before now → ((q : ℕ) (b : Buffer) → IsPut puts q b → IsSlice file table q b)
+    → TellsSlices file table before → TellsSlices file table now
+gained-slices file table puts before now gains own t =
+    let now_told = told-some before.entries now.entries t.entries (sym gains.tells) t.told in
+    record {
+      entries = now_told.0;
+      told = now_told.1;
+      slices = λ s b e. elim (gains.from t.entries now_told.0 s b t.told now_told.1 e) [ inl old ↦ t.slices s b old | inr put ↦ own s b put ];
+    }
+
+-- a cache that gained the puts of a block still tells slices
+pub block-slices : (file : List ℕ) (w : World) (v : Words) (k : Kept) (cores : List sched.Span) (outcomes : List Outcome) (before now : CacheState) → HasWords w v k → MayTake k.core cores
+    → AreOutcomesOf (map range_of cores) outcomes → HaveBytesOf file (map range_of cores) outcomes → Gains (puts_of k.requests (filed_of cores outcomes)) before now
+    → TellsSlices file w.table before → TellsSlices file w.table now
+block-slices file w v k cores outcomes before now st may places bytes gains t =
+    let all = all-true file w k cores outcomes v k.core (λ n s e. sym (st.segment n) ∙ e) st.table (follows w v k cores outcomes st may places) may.merge places bytes in
+    gained-slices file w.table (puts_of k.requests (filed_of cores outcomes)) before now gains
+    (λ q b put. subst (λ ts. IsSlice file ts q b) st.table (puts-slices file k (filed_of cores outcomes) all q b put)) t

@@ -1,10 +1,9 @@
 -- A list in blocks.
-use Rattle.std.proofs.Common.{◌≡◌, ℕ, zero, suc, ◌+◌, ◌-◌, ◌*◌, ◌<◌, ◌≤◌, List, [], ◌∷◌, ◌++◌, length, refl, sym, ap, ◌∙◌, subst, arith, append_assoc, length-append}
+use Rattle.std.proofs.Common.{◌≡◌, ℕ, zero, suc, ◌-◌, ◌≤◌, List, [], ◌∷◌, ◌++◌, length, refl, sym, ap, ◌∙◌, arith, append_assoc}
 use Rattle.std.specs.List.{flat_map}
 use Rattle.std.proofs.lemmas.List.{append-nil}
-use Rattle.vx_sched.specs.declared.event.Event.{Event}
 use Rattle.vx_sched.specs.declared.metrics.RequestMetrics.{RequestMetrics}
-use Rattle.vx_source.specs.Events.{add_first, rest_of, cut, blocks, with_spans, with_blocks}
+use Rattle.vx_source.specs.Events.{add_first, cut, blocks, with_spans, with_blocks}
 use Rattle.vx_source.specs.declared.span.Span.{Span}
 use Rattle.vx_sched.specs.Metrics.{with_call}
 

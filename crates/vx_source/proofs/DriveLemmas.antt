@@ -1,15 +1,14 @@
 -- From a history to the next: drives.
-use Rattle.std.proofs.Common.{◌≡◌, ℕ, zero, suc, ◌+◌, ◌-◌, ◌*◌, ◌<◌, ◌≤◌, ◌⊎◌, inl, inr, Bool, true, false, cond, min, List, [], ◌∷◌, ◌++◌, length, map, Option, Some, None, Result, Ok, Err, refl, sym, ap, ◌∙◌, subst, arith, append_assoc, length-append, ◌==◌}
-use Rattle.std.specs.Prelude.{is_err, OnErr, option_and_then, slice_get}
+use Rattle.std.proofs.Common.{◌≡◌, ℕ, suc, ◌+◌, ◌*◌, ◌<◌, ◌≤◌, ◌⊎◌, inl, inr, false, List, [], ◌∷◌, ◌++◌, length, map, Option, Some, None, Result, Ok, Err, refl, sym, ap, ◌∙◌, subst, arith, append_assoc, length-append, ◌==◌}
+use Rattle.std.specs.Prelude.{OnErr, option_and_then, slice_get}
 use Rattle.std.specs.List.{flat_map}
 use Rattle.std.specs.Option.{option_map}
 use Rattle.std.proofs.lemmas.Bool.{cases_lt, eqb-true, eqb-false}
 use Rattle.std.proofs.lemmas.List.{append-nil}
-use Rattle.vx_base.specs.Asking.{Log, ranges_of, GrewOrStayed}
+use Rattle.vx_base.specs.Asking.{Log, ranges_of}
 use Rattle.vx_base.specs.Caches.{CacheState}
-use Rattle.vx_base.specs.Counts.{Rises, last_count}
-use Rattle.vx_base.specs.Readers.{ReaderState, SameReader}
-use Rattle.vx_base.specs.declared.answer.Asked.{Asked}
+use Rattle.vx_base.specs.Counts.{Rises}
+use Rattle.vx_base.specs.Readers.{ReaderState}
 use Rattle.vx_sched.specs.Io.{request_of as range_of}
 use Rattle.vx_sched.specs.Metrics.{with_call, with_span}
 use Rattle.vx_sched.specs.Outcomes.{AreOutcomesOf}
@@ -25,19 +24,19 @@ use Rattle.vx_source.specs.Blocks.{number_of, reported, span_outcome, reports_of
 use Rattle.vx_source.specs.Drives.{IsTurned, IsIdle, TakesBlock, IsLost, StopsDrive}
 use Rattle.vx_source.specs.Events.{blocks, told_block, told_spans, with_spans, with_blocks, events, metrics}
 use Rattle.vx_source.specs.Fits.{World, IsTurn, Turns, NoneDue, IsWhole, driven, waiting, core_span, requests_of, request_at, read_request, with_request}
-use Rattle.vx_source.specs.History.{Moment, moment, drives, stops, is_due, first_of, outcome_by, outcome_after, outcome_of}
+use Rattle.vx_source.specs.History.{Moment, drives, is_due, first_of, outcome_by, outcome_after, outcome_of}
 use Rattle.vx_source.specs.Kept.{Kept}
 use Rattle.vx_source.specs.Stands.{Words, HasWords, Stands, IsNext, words}
 use Rattle.vx_source.specs.declared.reply.Reply.TheVariants.{Driven}
 use Rattle.vx_source.specs.declared.span.Span.{Span}
 use Rattle.vx_source.specs.declared.span.SpanOutcome.{SpanOutcome}
-use Rattle.vx_source.proofs.BlockLemmas.{IsTurnBy, TurnsBy, turns-all, follows, block_words, block-stands}
-use Rattle.vx_source.specs.Bytes.{HasBytes}
-use Rattle.vx_source.proofs.BytesLemmas.{block-bytes}
+use Rattle.vx_source.proofs.BlockLemmas.{IsTurnBy, TurnsBy, turns-all, follows, block-stands}
+use Rattle.vx_source.specs.Bytes.{HasBytes, TellsSlices}
+use Rattle.vx_source.proofs.BytesLemmas.{block-bytes, block-slices}
 use Rattle.vx_source.specs.Puts.{Gains, PutsBy, puts_of}
 use Rattle.vx_source.proofs.PutLemmas.{puts-then, put-block}
 use Rattle.vx_source.proofs.CutLemmas.{IsCut, cut-block, cut-last, flat-append, blocks-append}
-use Rattle.vx_source.proofs.SpanLemmas.{Follows, with_outcome, follows-taken, asked_of, core-is}
+use Rattle.vx_source.proofs.SpanLemmas.{Follows, follows-taken, asked_of, core-is}
 use Rattle.vx_source.proofs.StepLemmas.{quiet}
 use Rattle.vx_source.proofs.FilingLemmas.{log-reports, ranges-log}
 use Rattle.vx_source.specs.declared.filing.Block.{Block}
@@ -382,3 +381,10 @@ turns-put w past k now done done_now before after first ca cb d p (inr t) =
     subst (λ ds. PutsBy past ds first cb) (sym t.reports)
     (puts-then past done (reports_of t.cores t.outcomes) (puts_of k.requests (filed_of t.cores t.outcomes)) first ca cb p
     (put-block k.requests past (λ n. d.stands.segment n) t.cores t.outcomes t.places) t.gains)
+
+-- a cache still tells slices after a turn
+pub turns-slices : (w : World) (past : List Moment) (file : List ℕ) (k now : Kept) (done done_now : List Span) (before after : ReaderState) (ca cb : CacheState) → Driving w past done k → before.bytes ≡ Some file
+    → IsIdle k now done done_now before after ca cb ⊎ TakesBlock k now done done_now before after ca cb → TellsSlices file w.table ca → TellsSlices file w.table cb
+turns-slices w past file k now done done_now before after ca cb d told (inl i) t = subst (TellsSlices file w.table) (sym i.cache) t
+turns-slices w past file k now done done_now before after ca cb d told (inr b) t =
+    block-slices file w (words w (driven done past)) k b.cores b.outcomes ca cb d.stands b.may b.places (b.bytes file told) b.gains t

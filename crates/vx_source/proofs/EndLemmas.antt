@@ -1,22 +1,19 @@
 -- The end of a live number.
-use Rattle.std.proofs.Common.{◌≡◌, ◌≢◌, ℕ, ◌+◌, ◌-◌, ◌<◌, ◌≤◌, Bool, true, false, cond, List, [], ◌∷◌, ◌++◌, length, Option, Some, None, refl, sym, ap, ◌∙◌, subst, arith, ◌==◌, ◌&&◌}
+use Rattle.std.proofs.Common.{◌≡◌, ℕ, ◌+◌, ◌-◌, ◌≤◌, Bool, true, false, cond, [], ◌∷◌, ◌++◌, Option, Some, None, refl, sym, ap, ◌∙◌, subst, arith, ◌==◌, ◌&&◌}
 use Rattle.std.specs.Prelude.{slice_get, nat_le, is_none, is_some}
 use Rattle.std.specs.Option.{option_map}
-use Rattle.std.proofs.lemmas.Bool.{eqb-true, eqb-false, eq-eqb, ne_eqb, le-leb, lt-leb, leb-true, leb-false, and_right}
+use Rattle.std.proofs.lemmas.Bool.{eqb-true, eqb-false, ne_eqb, le-leb, lt-leb, leb-true, leb-false, and_right}
 use Rattle.std.proofs.lemmas.List.{append-nil}
-use Rattle.vx_sched.specs.Reads.{waiting_at, ranges_in_flight, drop_read}
-use Rattle.vx_sched.specs.Reads as core
-use Rattle.vx_sched.specs.Scheduling.{Scheduler, SameSettings, IsLegal, replay, dropped}
-use Rattle.vx_sched.specs.declared.event.Event.{Event}
+use Rattle.vx_sched.specs.Reads.{drop_read}
+use Rattle.vx_sched.specs.Scheduling.{Scheduler, IsLegal, replay, dropped}
 use Rattle.vx_sched.specs.declared.event.Event.TheVariants as event
-use Rattle.vx_sched.specs.declared.request.ReadRequest.{ReadRequest}
 use Rattle.vx_sched.proofs.SoundLemmas.{waiting-dropped, polled-dropped, sound-dropped}
 use Rattle.vx_sched.proofs.CountLemmas.{ranges-less, drop-leads}
 use Rattle.vx_source.specs.Events.{told_end}
 use Rattle.vx_source.specs.Fits.{World}
 use Rattle.vx_source.specs.History.{is_that, uses, is_good, is_bad}
-use Rattle.vx_source.specs.Kept.{Kept, update, ended, one_less, left_core, without_user, without_held, standing_in, standing_at, segment_at, users_in, users_at, polled_in, polled_at, outcome_in, outcome_at, bytes_in, bytes_of}
-use Rattle.vx_source.specs.Stands.{Words, HasWords, Ties, AreKnown, standing, users_of, waits, is_due, waiting, request_of}
+use Rattle.vx_source.specs.Kept.{Kept, update, ended, one_less, left_core, without_user, without_held, standing_in, standing_at, segment_at, users_in, users_at, polled_in, outcome_in, bytes_in, bytes_of}
+use Rattle.vx_source.specs.Stands.{Words, HasWords, Ties, users_of, waits, is_due, waiting, request_of}
 use Rattle.vx_source.specs.declared.request.Request.{Request}
 use Rattle.vx_source.specs.declared.request.SharedRead.{SharedRead}
 use Rattle.vx_source.specs.declared.span.SpanOutcome.{SpanOutcome}

@@ -1,5 +1,5 @@
 -- What a block of spans gives.
-use Rattle.std.proofs.Common.{◌≡◌, ℕ, zero, suc, ◌+◌, ◌-◌, ◌<◌, ◌≤◌, List, [], ◌∷◌, ◌++◌, length, map, drop, get_or, Option, Some, None, Result, Ok, Err, refl, sym, ap, ◌∙◌, subst, arith, append_assoc, add-one, inr, true, cond}
+use Rattle.std.proofs.Common.{◌≡◌, ℕ, zero, suc, ◌+◌, ◌<◌, List, [], ◌∷◌, ◌++◌, length, map, drop, get_or, Some, None, Result, Ok, Err, refl, sym, ap, ◌∙◌, subst, arith, append_assoc, add-one, inr, true, cond}
 use Rattle.std.specs.Prelude.{slice_get, is_err, is_some, Vec}
 use Rattle.std.specs.Global.{Global}
 use Rattle.std.specs.Option.{option_map}
@@ -73,6 +73,7 @@ module _ {E : Type 0} (cores : List sched.Span) (before now : ReaderState) where
     log = h.log ∙ ap (λ l. option_map (λ x. x ++ l) before.log) (log-reports cores outcomes.items h.places ∙ ap asked_by (sym reports));
     rises = subst (λ n. Rises n before.faults now.faults) (bad-reports cores outcomes.items h.places ∙ ap bad_spans (sym reports)) h.rises;
     memory = tt;
+    sound = h.sound;
   }
 
   -- memory was wanting after the reader answered
@@ -84,4 +85,5 @@ module _ {E : Type 0} (cores : List sched.Span) (before now : ReaderState) where
     log = tt;
     rises = tt;
     memory = record { more = log_of (map request_of cores) outcomes.items; asked = inr (ranges-log (map request_of cores) outcomes.items h.places); grew = h.log };
+    sound = h.sound;
   }

@@ -1,20 +1,15 @@
 -- A session without requests.
-use Rattle.std.proofs.Common.{◌≡◌, ℕ, ◌+◌, ◌^◌, ◌<◌, ◌≤◌, Bool, true, false, List, [], ◌∷◌, ◌++◌, length, Option, Some, None, refl, sym, ap, ◌∙◌, subst, arith, ◌==◌}
+use Rattle.std.proofs.Common.{◌≡◌, ℕ, ◌+◌, ◌^◌, ◌<◌, Bool, true, false, List, [], ◌∷◌, ◌++◌, length, Option, Some, None, refl, ap, ◌∙◌, subst, arith, ◌==◌}
 use Rattle.std.specs.Prelude.{slice_get}
 use Rattle.std.proofs.lemmas.Bool.{eqb-true, eqb-false}
 use Rattle.vx_base.specs.declared.segment.SegmentSpec.{SegmentSpec}
-use Rattle.vx_sched.specs.Law.{IsSound}
 use Rattle.vx_sched.specs.Scheduling.{Scheduler}
-use Rattle.vx_sched.specs.declared.metrics.RequestMetrics.{RequestMetrics}
-use Rattle.vx_sched.specs.Reads.{waiting_at, polled_at, ranges_in_flight}
 use Rattle.vx_sched.specs.Law.{idle}
 use Rattle.vx_sched.proofs.LawRuns.{idle-sound}
 use Rattle.vx_source.specs.Events.{no_metrics}
 use Rattle.vx_source.specs.Fits.{World}
 use Rattle.vx_source.specs.Kept.{IsBlank, flatten, latest_at, tail_start}
-use Rattle.vx_source.specs.Stands.{HasWords, IsIdle, Stands, words}
-use Rattle.vx_source.specs.declared.request.Request.{Request}
-use Rattle.vx_source.specs.declared.request.SharedRead.{SharedRead}
+use Rattle.vx_source.specs.Stands.{IsIdle, Stands}
 use Rattle.vx_source.specs.declared.tail.Tail.{Tail}
 use Rattle.vx_source.proofs.SlotLemmas.{get-push_last, get-push_other}
 

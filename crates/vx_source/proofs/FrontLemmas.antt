@@ -10,7 +10,6 @@ use Rattle.vx_base.specs.Buffer.{Buffer}
 use Rattle.vx_base.specs.Caches.{Segments, CacheState, SameCache, GetCause, PutCause, OldEntries, buffer_of}
 use Rattle.vx_base.specs.declared.segment.SegmentId.{SegmentId}
 use Rattle.vx_base.specs.declared.segment_cache.CacheError.{CacheError}
-use Rattle.vx_base.specs.declared.segment_cache.CacheError.TheVariants as cache_error
 use Rattle.vx_source.specs.Keeping.{in_front}
 
 -- a buffer that is at hand counts

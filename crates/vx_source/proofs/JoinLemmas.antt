@@ -1,5 +1,5 @@
 -- Laws of the histories that a session stands for.
-use Rattle.std.proofs.Common.{◌≡◌, ℕ, ◌<◌, ◌≤◌, Bool, true, false, cond, not, List, [], length, Option, Some, None, refl, sym, ap, ◌∙◌, subst, arith, ◌==◌, ◌&&◌}
+use Rattle.std.proofs.Common.{◌≡◌, ℕ, ◌≤◌, Bool, true, false, cond, not, List, [], Option, Some, None, refl, sym, ap, ◌∙◌, subst, arith, ◌&&◌}
 use Rattle.std.specs.Prelude.{slice_get, nat_le, option_and_then}
 use Rattle.std.specs.Option.{option_map}
 use Rattle.std.proofs.lemmas.Bool.{eqb-true, le-leb, leb-true, and_parts}
@@ -11,7 +11,7 @@ use Rattle.vx_source.specs.Events.{events}
 use Rattle.vx_source.specs.Fits.{World}
 use Rattle.vx_source.specs.History.{Moment, is_live, is_that, read_of, segment_of, outcome_of, is_bad, joins, if_open, joinable, users, uses}
 use Rattle.vx_source.specs.Kept.{Kept}
-use Rattle.vx_source.specs.Stands.{Words, Stands, words}
+use Rattle.vx_source.specs.Stands.{Stands, words}
 use Rattle.vx_source.specs.declared.request.Request.{Request}
 use Rattle.vx_source.proofs.SlotLemmas.{get-within}
 use Rattle.vx_source.proofs.TallyLemmas.{count-found}

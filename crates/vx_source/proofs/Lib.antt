@@ -9,6 +9,7 @@ pub mod FrontLemmas
 pub mod JoinLemmas
 pub mod KeepingLemmas
 pub mod PendingLemmas
+pub mod InsideLemmas
 pub mod PutLemmas
 pub mod RegisterLemmas
 pub mod ScriptLemmas

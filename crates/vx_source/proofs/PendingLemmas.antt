@@ -1,20 +1,20 @@
 -- A poll of a number whose read waits.
-use Rattle.std.proofs.Common.{◌≡◌, ℕ, ◌+◌, ◌<◌, ◌≤◌, Bool, true, false, cond, List, [], ◌∷◌, ◌++◌, length, Option, Some, None, refl, sym, ap, ◌∙◌, subst, arith, ◌==◌, ◌&&◌}
+use Rattle.std.proofs.Common.{◌≡◌, ℕ, ◌≤◌, Bool, true, false, cond, [], ◌∷◌, ◌++◌, Option, Some, None, refl, sym, ap, ◌∙◌, subst, arith, ◌==◌, ◌&&◌}
 use Rattle.std.specs.Prelude.{slice_get, nat_le, is_none, is_some}
 use Rattle.std.specs.Option.{option_map}
 use Rattle.std.proofs.lemmas.Bool.{eqb-true, eqb-false, ne_eqb, le-leb}
 use Rattle.std.proofs.lemmas.List.{append-nil}
 use Rattle.vx_sched.specs.Reads.{waiting_at, ranges_in_flight, poll_read}
 use Rattle.vx_sched.specs.Reads as core
-use Rattle.vx_sched.specs.Scheduling.{Scheduler, IsLegal, replay, polled}
+use Rattle.vx_sched.specs.Scheduling.{IsLegal, replay, polled}
 use Rattle.vx_sched.specs.declared.event.Event.TheVariants as event
 use Rattle.vx_sched.proofs.SoundLemmas.{waiting-polled, polled-polled, sound-polled}
 use Rattle.vx_sched.proofs.CountLemmas.{ranges-less, poll-leads}
 use Rattle.vx_source.specs.Events.{told_poll}
 use Rattle.vx_source.specs.Fits.{World}
 use Rattle.vx_source.specs.History.{is_that}
-use Rattle.vx_source.specs.Kept.{Kept, update, marked, with_poll, standing_at, users_in, polled_in, polled_at, outcome_in, outcome_at, bytes_in}
-use Rattle.vx_source.specs.Stands.{Words, HasWords, Ties, users_of, waits, is_due, waiting, request_of}
+use Rattle.vx_source.specs.Kept.{Kept, update, marked, with_poll, standing_at, users_in, polled_in, polled_at, outcome_in, bytes_in}
+use Rattle.vx_source.specs.Stands.{Words, HasWords, users_of, waits, is_due, request_of}
 use Rattle.vx_source.specs.declared.request.SharedRead.{SharedRead}
 use Rattle.vx_source.proofs.SlotLemmas.{get-update_same, get-update_other, length-update}
 use Rattle.vx_source.proofs.WordLemmas.{eq-self, replay-append, legal-append, live-of, used-of, request-some}

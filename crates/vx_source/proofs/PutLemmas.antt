@@ -1,11 +1,11 @@
 -- What a session puts into its cache.
-use Rattle.std.proofs.Common.{◌≡◌, ℕ, ◌+◌, ◌<◌, ◌≤◌, ◌⊎◌, inl, inr, Bool, true, false, min, List, [], ◌∷◌, ◌++◌, length, map, Option, Some, None, Result, Ok, Err, refl, sym, ap, ◌∙◌, subst, arith, append_assoc}
+use Rattle.std.proofs.Common.{◌≡◌, ℕ, ◌+◌, ◌≤◌, ◌⊎◌, inl, inr, Bool, true, false, List, [], ◌∷◌, ◌++◌, length, map, Option, Some, None, Result, refl, sym, ap, ◌∙◌, subst, arith, append_assoc}
 use Rattle.std.specs.Prelude.{is_some}
 use Rattle.std.specs.Option.{option_map}
 use Rattle.std.proofs.lemmas.List.{append-nil}
 use Rattle.vx_base.specs.Buffer.{Buffer}
 use Rattle.vx_base.specs.Caches.{Segments, CacheState, PutCause, Logged, Lost, buffer_of}
-use Rattle.vx_base.specs.Counts.{Rises, last_count}
+use Rattle.vx_base.specs.Counts.{Rises}
 use Rattle.vx_base.specs.declared.segment.SegmentId.{SegmentId}
 use Rattle.vx_base.specs.declared.segment_cache.CacheError.{CacheError}
 use Rattle.vx_sched.specs.Io.{request_of as range_of}
@@ -16,13 +16,13 @@ use Rattle.vx_sched.specs.declared.fault.Outcome.TheVariants as out
 use Rattle.vx_sched.specs.declared.request.ReadRequest.{ReadRequest}
 use Rattle.vx_source.specs.Blocks.{number_of, span_outcome, reports_of, cut_of, filed_good, filed_bad, filed_by, filed_of}
 use Rattle.vx_source.specs.History.{Moment, segment_of}
-use Rattle.vx_source.specs.Kept.{Kept, segment_at}
+use Rattle.vx_source.specs.Kept.{segment_at}
 use Rattle.vx_source.specs.Puts.{Gains, PutsBy, IsPut, put_at, puts_of, kept_of, missed, with_segment, segments_of, put_segments, put_by}
 use Rattle.vx_source.specs.declared.filing.Filed.{Filed}
 use Rattle.vx_source.specs.declared.request.Request.{Request}
 use Rattle.vx_source.specs.declared.span.Span.{Span}
 use Rattle.vx_source.specs.declared.span.SpanOutcome.{SpanOutcome}
-use Rattle.vx_source.specs.declared.span.SpanOutcome.TheVariants.{Good, Bad}
+use Rattle.vx_source.specs.declared.span.SpanOutcome.TheVariants.{Bad}
 
 grew-nothing : (x : Option Segments) → x ≡ option_map (λ l. l ++ []) x
 grew-nothing None = refl
@@ -79,7 +79,13 @@ put-right : (a b : Segments) (q : ℕ) (buffer : Buffer) → IsPut b q buffer �
 put-right [] b q buffer h = h
 put-right (p ∷ a) b q buffer h = inr (put-right a b q buffer h)
 
-told-some : (x y : Option Segments) (e : Segments) → is_some x ≡ is_some y → x ≡ Some e → (f : Segments) × (y ≡ Some f)
+-- a put among two lists of puts is in one of them
+pub put-split : (a b : Segments) (q : ℕ) (buffer : Buffer) → IsPut (a ++ b) q buffer → IsPut a q buffer ⊎ IsPut b q buffer
+put-split [] b q buffer h = inr h
+put-split (p ∷ a) b q buffer (inl h) = inl (inl h)
+put-split (p ∷ a) b q buffer (inr h) = elim (put-split a b q buffer h) [ inl l ↦ inl (inr l) | inr r ↦ inr r ]
+
+pub told-some : (x y : Option Segments) (e : Segments) → is_some x ≡ is_some y → x ≡ Some e → (f : Segments) × (y ≡ Some f)
 told-some None y e h is = cc
 told-some (Some x) None e h is = let clash : true ≡ false = h in cc
 told-some (Some x) (Some y) e h is = (y, refl)

@@ -1,29 +1,25 @@
 -- A register that makes a number.
-use Rattle.std.proofs.Common.{◌≡◌, ◌≢◌, ℕ, ◌+◌, ◌-◌, ◌^◌, ◌<◌, ◌≤◌, Bool, true, false, cond, List, [], ◌∷◌, ◌++◌, length, Option, Some, None, refl, sym, ap, ◌∙◌, subst, arith, ◌==◌, ◌&&◌, min, length-append}
-use Rattle.std.specs.Prelude.{slice_get, nat_le, is_none, is_some, unwrap_or, option_and_then, not}
+use Rattle.std.proofs.Common.{◌≡◌, ℕ, ◌+◌, ◌^◌, ◌<◌, ◌≤◌, Bool, true, false, cond, List, [], ◌∷◌, ◌++◌, length, Option, Some, None, refl, sym, ap, ◌∙◌, subst, arith, ◌==◌, ◌&&◌, length-append}
+use Rattle.std.specs.Prelude.{slice_get, nat_le, is_none, is_some, unwrap_or, option_and_then}
 use Rattle.std.specs.Option.{option_map}
-use Rattle.std.proofs.lemmas.Bool.{eqb-true, eqb-false, eq-eqb, ne_eqb, le-leb, lt-leb, leb-true, and_right, and_parts}
+use Rattle.std.proofs.lemmas.Bool.{eqb-true, eqb-false, eq-eqb, ne_eqb, le-leb, and_right}
 use Rattle.std.proofs.lemmas.List.{append-nil}
 use Rattle.vx_base.specs.Buffer.{Buffer}
 use Rattle.vx_base.specs.Counts.{last_count}
 use Rattle.vx_base.specs.declared.segment.SegmentSpec.{SegmentSpec}
-use Rattle.vx_sched.specs.Reads.{waiting_at, ranges_in_flight}
-use Rattle.vx_sched.specs.Reads as core
 use Rattle.vx_sched.specs.Scheduling.{Scheduler, IsLegal, replay, requested}
-use Rattle.vx_sched.specs.declared.event.Event.{Event}
 use Rattle.vx_sched.specs.declared.event.Event.TheVariants as event
 use Rattle.vx_sched.proofs.SoundLemmas.{waiting-requested, polled-requested, sound-requested}
 use Rattle.vx_sched.proofs.CountLemmas.{ranges-added}
 use Rattle.vx_source.specs.Events.{told_register}
 use Rattle.vx_source.specs.Fits.{World, read_request}
-use Rattle.vx_source.specs.History.{is_that, uses, is_good, is_bad, count_below}
-use Rattle.vx_source.specs.Kept.{Kept, update, unused, begun, one_more, with_held, with_joined, with_begun, standing_of, standing_in, standing_at, segment_at, users_in, users_at, polled_in, polled_at, outcome_in, outcome_at, bytes_in, bytes_of, flatten, latest_at}
+use Rattle.vx_source.specs.History.{is_that, uses, is_good, is_bad}
+use Rattle.vx_source.specs.Kept.{Kept, update, unused, begun, one_more, with_held, with_joined, with_begun, standing_of, standing_in, standing_at, segment_at, users_in, users_at, polled_in, outcome_in, bytes_in, flatten, latest_at}
 use Rattle.vx_source.specs.Stands.{Words, HasWords, Ties, AreKnown, standing, users_of, waits, is_due, waiting, request_of}
 use Rattle.vx_source.specs.declared.request.Request.{Request}
 use Rattle.vx_source.specs.declared.request.SharedRead.{SharedRead}
 use Rattle.vx_source.specs.declared.request.Standing.{Standing}
-use Rattle.vx_source.specs.declared.request.Standing.TheVariants.{Held, Reads, Ended}
-use Rattle.vx_source.specs.declared.span.SpanOutcome.{SpanOutcome}
+use Rattle.vx_source.specs.declared.request.Standing.TheVariants.{Held, Reads}
 use Rattle.vx_source.proofs.SlotLemmas.{get-push_last, get-push_other, get-past, get-some, get-within, get-update_same, get-update_other, length-update}
 use Rattle.vx_source.proofs.TallyLemmas.{count-same, count-most, count-next}
 use Rattle.vx_source.proofs.WordLemmas.{eq-self, replay-append, legal-append, live-used}

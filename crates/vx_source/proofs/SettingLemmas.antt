@@ -3,7 +3,7 @@ use Rattle.std.proofs.Common.{◌≡◌, ℕ, ◌+◌, ◌≤◌, ◌++◌, Bool
 use Rattle.std.specs.Prelude.{slice_get}
 use Rattle.vx_base.specs.Buffer.{Buffer}
 use Rattle.vx_base.specs.declared.segment.SegmentSpec.{SegmentSpec}
-use Rattle.vx_source.specs.Kept.{Kept, with_poll, after_good, after_outcome, after_read, after_standing, after_found, after_poll, standing_at, drop_standing, after_drop, joinable_at, with_registered, with_found, after_look}
+use Rattle.vx_source.specs.Kept.{Kept, ended, without_held, without_user, with_poll, after_good, after_outcome, after_read, after_standing, after_found, after_poll, standing_at, drop_standing, after_drop, joinable_at, with_registered, with_found, after_look}
 use Rattle.vx_source.specs.declared.look.Look.{Look}
 use Rattle.vx_source.specs.declared.look.Look.TheVariants.{Missing, InTail, InCache, CacheFailed, Nowhere}
 use Rattle.vx_source.specs.declared.request.Request.{Request}
@@ -12,43 +12,58 @@ use Rattle.vx_source.specs.declared.request.Standing.{Standing}
 use Rattle.vx_source.specs.declared.request.Standing.TheVariants.{Held, Reads, Ended}
 use Rattle.vx_source.specs.declared.span.SpanOutcome.{SpanOutcome}
 use Rattle.vx_source.specs.declared.span.SpanOutcome.TheVariants.{Good, Bad}
+use Rattle.vx_source.proofs.SlotLemmas.{length-update}
 
-poll-marks : (k : Kept) (r : ℕ) (polled : Bool) → (with_poll k r polled).idle ≡ k.idle
-poll-marks k r true = refl
-poll-marks k r false = refl
+-- a poll and a drop keep the settings, and make no number
+pub record Keeps (k now : Kept) : Type 0 where
+  pub idle : now.idle ≡ k.idle
+  pub made : length now.requests ≡ length k.requests
 
-good-idle : (k : Kept) (n r : ℕ) (bytes : Option Buffer) → (after_good k n r bytes).idle ≡ k.idle
-good-idle k n r None = refl
-good-idle k n r (Some buffer) = refl
+same : (k : Kept) → Keeps k k
+same k = record { idle = refl; made = refl }
 
-outcome-idle : (k : Kept) (n r : ℕ) (x : SharedRead) (o : Option SpanOutcome) → (after_outcome k n r x o).idle ≡ k.idle
-outcome-idle k n r x None = poll-marks k r x.polled
-outcome-idle k n r x (Some Good) = good-idle k n r x.bytes
-outcome-idle k n r x (Some (Bad fault)) = refl
+held-keeps : (k : Kept) (n : ℕ) → Keeps k (without_held k n)
+held-keeps k n = record { idle = refl; made = length-update ended k.requests n }
 
-read-idle : (k : Kept) (n r : ℕ) (x : Option SharedRead) → (after_read k n r x).idle ≡ k.idle
-read-idle k n r None = refl
-read-idle k n r (Some x) = outcome-idle k n r x x.outcome
+user-keeps : (k : Kept) (n r : ℕ) → Keeps k (without_user k n r)
+user-keeps k n r = record { idle = refl; made = length-update ended k.requests n }
 
-standing-idle : (k : Kept) (n : ℕ) (s : Standing) → (after_standing k n s).idle ≡ k.idle
-standing-idle k n (Held buffer) = refl
-standing-idle k n (Reads r) = read-idle k n r (slice_get k.reads r)
-standing-idle k n Ended = refl
+poll-marks : (k : Kept) (r : ℕ) (polled : Bool) → Keeps k (with_poll k r polled)
+poll-marks k r true = same k
+poll-marks k r false = record { idle = refl; made = refl }
 
-found-idle : (k : Kept) (n : ℕ) (q : Option Request) → (after_found k n q).idle ≡ k.idle
-found-idle k n None = refl
-found-idle k n (Some q) = standing-idle k n q.standing
+good-keeps : (k : Kept) (n r : ℕ) (bytes : Option Buffer) → Keeps k (after_good k n r bytes)
+good-keeps k n r None = same k
+good-keeps k n r (Some buffer) = user-keeps k n r
 
-pub poll-idle : (k : Kept) (n : ℕ) → (after_poll k n).idle ≡ k.idle
-poll-idle k n = found-idle k n (slice_get k.requests n)
+outcome-keeps : (k : Kept) (n r : ℕ) (x : SharedRead) (o : Option SpanOutcome) → Keeps k (after_outcome k n r x o)
+outcome-keeps k n r x None = poll-marks k r x.polled
+outcome-keeps k n r x (Some Good) = good-keeps k n r x.bytes
+outcome-keeps k n r x (Some (Bad fault)) = user-keeps k n r
 
-dropped-idle : (k : Kept) (n : ℕ) (s : Option (Option ℕ)) → (drop_standing k n s).idle ≡ k.idle
-dropped-idle k n None = refl
-dropped-idle k n (Some None) = refl
-dropped-idle k n (Some (Some r)) = refl
+read-keeps : (k : Kept) (n r : ℕ) (x : Option SharedRead) → Keeps k (after_read k n r x)
+read-keeps k n r None = same k
+read-keeps k n r (Some x) = outcome-keeps k n r x x.outcome
 
-pub drop-idle : (k : Kept) (n : ℕ) → (after_drop k n).idle ≡ k.idle
-drop-idle k n = dropped-idle k n (standing_at k.requests n)
+standing-keeps : (k : Kept) (n : ℕ) (s : Standing) → Keeps k (after_standing k n s)
+standing-keeps k n (Held buffer) = held-keeps k n
+standing-keeps k n (Reads r) = read-keeps k n r (slice_get k.reads r)
+standing-keeps k n Ended = same k
+
+found-keeps : (k : Kept) (n : ℕ) (q : Option Request) → Keeps k (after_found k n q)
+found-keeps k n None = same k
+found-keeps k n (Some q) = standing-keeps k n q.standing
+
+pub poll-keeps : (k : Kept) (n : ℕ) → Keeps k (after_poll k n)
+poll-keeps k n = found-keeps k n (slice_get k.requests n)
+
+dropped-keeps : (k : Kept) (n : ℕ) (s : Option (Option ℕ)) → Keeps k (drop_standing k n s)
+dropped-keeps k n None = same k
+dropped-keeps k n (Some None) = held-keeps k n
+dropped-keeps k n (Some (Some r)) = user-keeps k n r
+
+pub drop-keeps : (k : Kept) (n : ℕ) → Keeps k (after_drop k n)
+drop-keeps k n = dropped-keeps k n (standing_at k.requests n)
 
 -- a register keeps the settings, and makes at most one number
 pub record Registered (k now : Kept) : Type 0 where

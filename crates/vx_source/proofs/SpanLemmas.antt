@@ -1,10 +1,9 @@
 -- What one span of a drive does.
-use Rattle.std.proofs.Common.{◌≡◌, ◌≢◌, ℕ, ◌+◌, ◌-◌, ◌<◌, ◌≤◌, Bool, true, false, cond, List, [], ◌∷◌, ◌++◌, length, map, Option, Some, None, refl, sym, ap, ◌∙◌, subst, arith, ◌==◌, ◌&&◌, ◌||◌}
-use Rattle.std.specs.Prelude.{slice_get, nat_le, is_none, is_some, option_and_then}
-use Rattle.std.specs.List.{list_any, AllByRecursion}
+use Rattle.std.proofs.Common.{◌≡◌, ℕ, ◌≤◌, Bool, true, false, cond, List, [], ◌∷◌, map, Option, Some, None, refl, sym, ap, ◌∙◌, subst, arith, ◌==◌, ◌&&◌, ◌||◌}
+use Rattle.std.specs.Prelude.{slice_get, nat_le, is_none, is_some}
+use Rattle.std.specs.List.{AllByRecursion}
 use Rattle.std.specs.Option.{option_map}
-use Rattle.std.proofs.lemmas.Bool.{eqb-true, eqb-false, eq-eqb, ne_eqb, le-leb, lt-leb, leb-true, and_left, and_right, and_parts}
-use Rattle.vx_base.specs.Buffer.{Buffer}
+use Rattle.std.proofs.lemmas.Bool.{eqb-true, eqb-false, leb-true, and_left, and_right, and_parts}
 use Rattle.vx_sched.specs.Io.{request_of as range_of}
 use Rattle.vx_sched.specs.Law.{IsSound}
 use Rattle.vx_sched.specs.Merging.{is_listed, span_of, Merges}
@@ -18,17 +17,16 @@ use Rattle.vx_sched.specs.declared.fault.Outcome.TheVariants as out
 use Rattle.vx_sched.specs.declared.request.ReadRequest.{ReadRequest}
 use Rattle.vx_sched.proofs.BatchLemmas.{merges-along}
 use Rattle.vx_sched.proofs.SoundLemmas.{waiting-taken, polled-taken, sound-taken}
-use Rattle.vx_source.specs.Blocks.{number_of, reported, span_outcome, filed_good, filed_bad, filed_by, with_filed, file_into, file_reads}
+use Rattle.vx_source.specs.Blocks.{number_of, reported, span_outcome, with_filed, file_into}
 use Rattle.vx_source.specs.Fits.{World, NamesRange, with_request}
 use Rattle.vx_source.specs.History.{is_among, first_of, outcome_by, is_good}
-use Rattle.vx_source.specs.Kept.{update, users_in, users_at, polled_in, polled_at, outcome_in, outcome_at, bytes_in, bytes_of}
+use Rattle.vx_source.specs.Kept.{update, users_in, users_at, polled_in, outcome_in, outcome_at, bytes_in, bytes_of}
 use Rattle.vx_source.specs.Stands.{Words, users_of, waits, is_due, waiting, request_of}
 use Rattle.vx_source.specs.declared.filing.Filed.{Filed}
 use Rattle.vx_source.specs.declared.request.SharedRead.{SharedRead}
 use Rattle.vx_source.specs.declared.span.Span.{Span}
 use Rattle.vx_source.specs.declared.span.SpanOutcome.{SpanOutcome}
-use Rattle.vx_source.specs.declared.span.SpanOutcome.TheVariants.{Good, Bad}
-use Rattle.vx_source.proofs.SlotLemmas.{get-update_same, get-update_other, length-update, get-some}
+use Rattle.vx_source.proofs.SlotLemmas.{get-update_same, get-update_other}
 
 -- the words after a span
 abbrev pub with_outcome : Words → Span → Words

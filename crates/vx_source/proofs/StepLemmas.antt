@@ -1,23 +1,22 @@
 -- From a history to the next: polls and drops.
-use Rattle.std.proofs.Common.{◌≡◌, ℕ, ◌+◌, ◌<◌, ◌≤◌, Bool, true, false, cond, not, List, [], ◌∷◌, ◌++◌, length, Option, Some, None, refl, sym, ap, ◌∙◌, subst, arith, ◌==◌, ◌&&◌, ◌||◌}
+use Rattle.std.proofs.Common.{◌≡◌, ℕ, ◌+◌, ◌<◌, ◌≤◌, Bool, true, false, cond, not, List, [], ◌++◌, length, Option, Some, None, refl, sym, ap, ◌∙◌, subst, arith, ◌==◌, ◌&&◌, ◌||◌}
 use Rattle.std.specs.Prelude.{slice_get, nat_le, nat_lt, is_none, is_some, option_and_then}
 use Rattle.std.specs.Option.{option_map, option_map_or}
-use Rattle.std.proofs.lemmas.Bool.{eqb-true, eqb-false, leb-true, le-leb}
+use Rattle.std.proofs.lemmas.Bool.{eqb-true, leb-true, le-leb}
 use Rattle.std.proofs.lemmas.List.{append-nil}
 use Rattle.vx_base.specs.Buffer.{Buffer}
 use Rattle.vx_base.specs.Counts.{last_count}
 use Rattle.vx_base.specs.declared.segment.SegmentSpec.{SegmentSpec}
 use Rattle.vx_sched.specs.declared.fault.Fault.{Fault}
-use Rattle.vx_source.specs.Fits.{World, IsRow, asks, covered_from, covers, is_gave, is_failing}
-use Rattle.vx_source.specs.History.{Got, gave, neither, Moment, moment, Deed, registers, polls, drops, is_live, is_held, is_that, is_good, is_bad, joins, if_open, joinable, users, waits, outcome_of, outcome_at}
+use Rattle.vx_source.specs.Fits.{World, asks, covered_from, covers, is_gave, is_failing}
+use Rattle.vx_source.specs.History.{Got, gave, neither, Moment, registers, polls, drops, is_live, is_held, is_that, is_good, is_bad, joins, if_open, joinable, users, waits, outcome_of, outcome_at}
 use Rattle.vx_source.specs.Kept.{Kept, standing_of, standing_in, standing_at, outcome_in, bytes_in, reply_read, reply_outcome, reply_good, reply_of_standing, reply_standing, poll_reply, after_read, after_outcome, after_good, after_standing, after_found, after_poll, with_poll, reply_dropped, drop_standing, drop_reply, after_drop, without_user, with_held, with_registered, with_found, is_covered, is_asked, IsLook, got_of, look_reply, after_look, joinable_at}
 use Rattle.vx_source.specs.Kept as kept
 use Rattle.vx_source.specs.Stands.{Words, HasWords, Stands, IsNext, words, users_of}
 use Rattle.vx_source.specs.declared.look.Look.{Look}
 use Rattle.vx_source.specs.declared.look.Look.TheVariants.{Missing, InTail, InCache, CacheFailed, Nowhere}
 use Rattle.vx_source.specs.declared.reply.FailCause.TheVariants as cause
-use Rattle.vx_source.specs.declared.reply.Reply.{Reply}
-use Rattle.vx_source.specs.declared.reply.Reply.TheVariants.{Registered, Ready, Pending, Failed, Dropped, NotLive}
+use Rattle.vx_source.specs.declared.reply.Reply.TheVariants.{Registered, Ready, Pending, Failed, Dropped}
 use Rattle.vx_source.specs.declared.request.Request.{Request}
 use Rattle.vx_source.specs.declared.request.SharedRead.{SharedRead}
 use Rattle.vx_source.specs.declared.request.Standing.{Standing}
@@ -27,7 +26,7 @@ use Rattle.vx_source.specs.declared.span.SpanOutcome.TheVariants.{Good, Bad}
 use Rattle.vx_source.proofs.WordLemmas.{live-of, used-of, read-found, not-live}
 use Rattle.vx_source.proofs.EndLemmas.{held-ends, read-ends}
 use Rattle.vx_source.proofs.SlotLemmas.{get-some, get-within}
-use Rattle.vx_source.proofs.RegisterLemmas.{held_words, register_words, held-registers, joined-registers, begun-registers}
+use Rattle.vx_source.proofs.RegisterLemmas.{register_words, held-registers, joined-registers, begun-registers}
 use Rattle.vx_source.proofs.PendingLemmas.{it-waits, polls-again, polls-first}
 
 -- nothing changes and nothing is told

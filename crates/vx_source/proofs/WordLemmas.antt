@@ -1,18 +1,18 @@
 -- What the words of a history say one of another.
-use Rattle.std.proofs.Common.{◌≡◌, ℕ, zero, suc, ◌<◌, ◌≤◌, Bool, true, false, cond, List, [], ◌∷◌, ◌++◌, length, Option, Some, None, refl, sym, ap, ◌∙◌, subst, arith, ◌==◌, ◌&&◌}
-use Rattle.std.specs.Prelude.{slice_get, nat_le, is_none, is_some, option_and_then}
+use Rattle.std.proofs.Common.{◌≡◌, ℕ, ◌<◌, ◌≤◌, Bool, true, false, cond, List, [], ◌∷◌, ◌++◌, length, Option, Some, None, refl, sym, ap, ◌∙◌, arith, ◌==◌, ◌&&◌}
+use Rattle.std.specs.Prelude.{slice_get, is_some, option_and_then}
 use Rattle.std.specs.Option.{option_map}
-use Rattle.std.proofs.lemmas.Bool.{eq-eqb, le-leb, lt-leb, leb-true, leb-false, and_parts, cases_lt}
+use Rattle.std.proofs.lemmas.Bool.{eq-eqb}
 use Rattle.vx_sched.specs.Scheduling.{Scheduler, IsLegal, replay, after_event}
 use Rattle.vx_sched.specs.declared.event.Event.{Event}
 use Rattle.vx_source.specs.Fits.{World, read_request}
 use Rattle.vx_source.specs.History.{is_that}
-use Rattle.vx_source.specs.Kept.{Kept, standing_in, standing_at, segment_at, users_in, users_at}
-use Rattle.vx_source.specs.Stands.{Words, HasWords, standing, users_of, request_of}
+use Rattle.vx_source.specs.Kept.{Kept, standing_in, standing_at, users_in}
+use Rattle.vx_source.specs.Stands.{Words, HasWords, users_of, request_of}
 use Rattle.vx_source.specs.declared.request.Request.{Request}
 use Rattle.vx_source.specs.declared.request.SharedRead.{SharedRead}
 use Rattle.vx_source.proofs.SlotLemmas.{get-some, get-past, get-within}
-use Rattle.vx_source.proofs.TallyLemmas.{count-some, count-most}
+use Rattle.vx_source.proofs.TallyLemmas.{count-some}
 
 pub eq-self : (n : ℕ) → (n == n) ≡ true
 eq-self n = eq-eqb n n refl

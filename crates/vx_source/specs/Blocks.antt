@@ -1,6 +1,6 @@
 -- What asking a block of spans gives, and how it is filed.
-use Rattle.std.specs.Prelude.{◌≡◌, ℕ, ◌-◌, ◌++◌, List, [], ◌∷◌, map, length, Option, Some, None, Result, IfOk, OnErr}
-use Rattle.vx_base.specs.Asking.{GrewOrStayed}
+use Rattle.std.specs.Prelude.{◌≡◌, ℕ, ◌-◌, ◌++◌, true, List, [], ◌∷◌, map, length, All, Option, Some, None, Result, IfOk, OnErr}
+use Rattle.vx_base.specs.Asking.{GrewOrStayed, IsInside}
 use Rattle.vx_base.specs.Buffer.{Buffer, bytes_at}
 use Rattle.vx_base.specs.Counts.{Rises}
 use Rattle.vx_base.specs.Readers.{ReaderState}
@@ -108,3 +108,4 @@ pub record AskedBlock {E : Type 0} (cores : List sched.Span) (before now : Reade
   pub log : IfOk block (λ b. Grew (asked_by b.reports.items) before.log now.log)
   pub rises : IfOk block (λ b. Rises (bad_spans b.reports.items) before.faults now.faults)
   pub memory : OnErr block (GrewOrStayed (map request_of cores) before.log now.log)
+  pub sound : (bytes : List ℕ) → before.never_fails ≡ true → before.bytes ≡ Some bytes → All (IsInside bytes) (map request_of cores) → now.faults ≡ before.faults

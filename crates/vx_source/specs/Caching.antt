@@ -1,8 +1,8 @@
 -- What a session does with its cache.
-use Rattle.std.specs.Prelude.{◌≡◌, ℕ, Bool, true, false, Option, Some, None, is_some}
-use Rattle.vx_base.specs.Caches.{Segments, CacheState, buffer_of}
+use Rattle.std.specs.Prelude.{◌≡◌, ℕ, Bool, true, false, Some, None, is_some}
+use Rattle.vx_base.specs.Caches.{Segments, CacheState, OldEntries, buffer_of}
 use Rattle.vx_base.specs.Counts.{Rises}
-use Rattle.vx_source.specs.History.{Got, gave, failing, neither}
+use Rattle.vx_source.specs.History.{Got, neither}
 use Rattle.vx_source.specs.Fits.{is_gave, is_failing}
 
 -- What the cache did when a register of a segment asked it, or not. It gives the segment exactly where its entries,
@@ -16,3 +16,5 @@ pub record HasGot (asked : Bool) (segment : ℕ) (before now : CacheState) (got 
   pub failed : is_failing got ≡ true → Rises 1 before.faults now.faults
   pub puts : now.puts ≡ before.puts
   pub lost : now.lost ≡ before.lost
+  pub from : OldEntries before.entries now.entries
+  pub tells : is_some now.entries ≡ is_some before.entries

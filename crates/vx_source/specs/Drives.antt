@@ -5,10 +5,14 @@ use Rattle.vx_base.specs.Caches.{CacheState}
 use Rattle.vx_base.specs.Counts.{Rises}
 use Rattle.vx_base.specs.Readers.{ReaderState}
 use Rattle.vx_sched.specs.Io.{request_of}
+use Rattle.vx_sched.specs.Law.{IsSound}
 use Rattle.vx_sched.specs.Outcomes.{AreOutcomesOf, HaveBytesOf}
+use Rattle.vx_sched.specs.Reads.{waiting_at}
 use Rattle.vx_sched.specs.Scheduling.{MergesInTurn, MayTake, NonePolled}
+use Rattle.vx_sched.specs.Span.{end_of}
 use Rattle.vx_sched.specs.Span as sched
 use Rattle.vx_sched.specs.declared.fault.Outcome.{Outcome}
+use Rattle.vx_sched.specs.declared.request.ReadRequest.{ReadRequest}
 use Rattle.vx_source.specs.Asks.{Grew, asked_by, bad_spans}
 use Rattle.vx_source.specs.Blocks.{reports_of, filed_of, after_block}
 use Rattle.vx_source.specs.Fits.{World}
@@ -53,6 +57,11 @@ pub record IsLost (k : Kept) (before now : Option Log) : Type 0 where
   pub merge : MergesInTurn k.core cores
   pub few : length cores ≤ k.core.concurrency
   pub log : GrewOrStayed (map request_of cores) before now
+
+-- each waiting read ends within so many bytes
+pub record WaitsWithin (size : ℕ) (k : Kept) : Type 0 where
+  pub sound : IsSound k.core
+  pub ends : (q : ℕ) (r : ReadRequest) → waiting_at k.core.reads q ≡ Some r → end_of r ≤ size
 
 -- a drive found no memory: what is kept stands for the history with a stopped drive, whose spans are whole blocks; the
 -- log gained the ranges of these spans, and then those of at most one further block

@@ -1,16 +1,14 @@
 -- The events of a history, as its scheduler sees them.
-use Rattle.std.specs.Prelude.{ℕ, zero, suc, ◌-◌, nat_le, Bool, true, false, List, [], ◌∷◌, ◌++◌, map, length, Option, Some, None, slice_get, if◌then◌else◌}
+use Rattle.std.specs.Prelude.{ℕ, zero, suc, ◌-◌, nat_le, Bool, false, List, [], ◌∷◌, ◌++◌, map, length, Option, Some, None, slice_get, if◌then◌else◌}
 use Rattle.std.specs.List.{flat_map}
 use Rattle.vx_sched.specs.Metrics.{with_span, with_call}
 use Rattle.vx_sched.specs.Span as sched
 use Rattle.vx_sched.specs.declared.metrics.RequestMetrics.{RequestMetrics}
 use Rattle.vx_sched.specs.declared.event.Event.{Event}
 use Rattle.vx_sched.specs.declared.event.Event.TheVariants as event
-use Rattle.vx_sched.specs.declared.request.ReadRequest.{ReadRequest}
 use Rattle.vx_base.specs.declared.segment.SegmentSpec.{SegmentSpec}
 use Rattle.vx_source.specs.History.{Deed, registers, polls, drops, drives, stops, Moment, spans_in, read_of, joinable, users, is_polled}
 use Rattle.vx_source.specs.Fits.{World, read_request, core_span}
-use Rattle.vx_source.specs.declared.reply.FailCause.TheVariants.{Fault}
 use Rattle.vx_source.specs.declared.reply.Reply.{Reply}
 use Rattle.vx_source.specs.declared.reply.Reply.TheVariants.{Registered, Ready, Pending, Failed, Dropped, Driven}
 use Rattle.vx_source.specs.declared.span.Span.{Span}

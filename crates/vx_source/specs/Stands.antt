@@ -142,6 +142,10 @@ pub record AreFit (table : List SegmentSpec) (tail : Option Tail) : Type 0 where
   pub ends : (n : ℕ) (s : SegmentSpec) → slice_get table n ≡ Some s → s.offset + s.length < 2 ^ 64
   pub lies : (n : ℕ) (s : SegmentSpec) → slice_get table n ≡ Some s → LiesIn tail s
 
+-- each segment of a table ends within so many bytes
+abbrev pub EndsWithin : ℕ → List SegmentSpec → Type 0
+EndsWithin size table = (s : ℕ) (spec : SegmentSpec) → slice_get table s ≡ Some spec → spec.offset + spec.length ≤ size
+
 -- the reply fits, and what is kept then stands for the history with it
 pub record IsNext (w : World) (past : List Moment) (deed : Deed) (reply : Reply) (k : Kept) : Type 0 where
   pub row : IsRow w past deed reply

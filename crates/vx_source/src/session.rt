@@ -1,6 +1,7 @@
 //! A session: the requests for segments of one file, and their reads.
 ghost use Rattle.std.specs.Prelude.{◌≡◌, ℕ, ◌+◌, ◌-◌, ◌<◌, ◌≤◌, ◌^◌, List, [], ◌∷◌, length, Some, None, true, false, slice_get, is_some, IfOk, IfSome, OnOk, OnErr};
 ghost use Rattle.vx_base.specs.Counts.{Rises};
+ghost use Rattle.vx_base.specs.declared.segment.SegmentSpec.{SegmentSpec};
 ghost use Rattle.vx_base.specs.Readers.{SameReader};
 ghost use Rattle.vx_sched.specs.Counting.{count_in};
 ghost use Rattle.vx_sched.specs.Metrics.{with_call};
@@ -10,7 +11,7 @@ ghost use Rattle.vx_sched.specs.declared.read.ReadState.TheVariants.{Polled};
 ghost use Rattle.vx_source.specs.Asks.{Grew, asked_by, bad_spans};
 ghost use Rattle.vx_source.specs.Blocks.{file_reads, with_cores};
 ghost use Rattle.vx_source.specs.Bytes.{HasBytes, IsEnd, TellsSlices, IsEntry, IsTrueReply};
-ghost use Rattle.vx_source.specs.Drives.{IsTurned, IsLost, StopsDrive};
+ghost use Rattle.vx_source.specs.Drives.{IsTurned, IsLost, StopsDrive, WaitsWithin};
 ghost use Rattle.vx_source.specs.Puts.{PutsBy, puts_of};
 ghost use Rattle.vx_source.specs.declared.reply.Reply.TheVariants.{Driven};
 ghost use Rattle.vx_base.specs.Caches.{SameCache};
@@ -18,7 +19,7 @@ ghost use Rattle.vx_source.specs.Caching.{HasGot};
 ghost use Rattle.vx_source.specs.Events.{metrics};
 ghost use Rattle.vx_source.specs.Fits.{World, covered_from};
 ghost use Rattle.vx_source.specs.History.{Moment, made, polls, drops, drives};
-ghost use Rattle.vx_source.specs.Stands.{Stands, IsNext, Registers, AreFit, world, greatest_alignment};
+ghost use Rattle.vx_source.specs.Stands.{Stands, IsNext, Registers, AreFit, EndsWithin, world, greatest_alignment};
 ghost use Rattle.vx_source.specs.Kept.{IsBlank, LiesIn, IsCut, IsLook, is_asked, got_of, tail_start, joinable_at, with_held, with_joined, with_begun, with_found, look_reply, after_look, without_user, without_held, with_poll, poll_reply, after_poll, reply_read, after_read, reply_good, after_good, drop_reply, after_drop, left_core};
 
 use crate::filing::{Block, Filed, ask_block, count_block, file_all};
@@ -507,6 +508,7 @@ impl Session {
             Registers w past id.0 (C.state cache.old) (C.state cache.new) reply self.new) }
         ensures bytes { OnOk result ((w : World) (past : List Moment) (file : List ℕ) → Stands w past self.old → HasBytes file self.old →
             TellsSlices file self.old.table (C.state cache.old) → HasBytes file self.new) }
+        ensures slices { OnOk result ((file : List ℕ) (table : List SegmentSpec) → TellsSlices file table (C.state cache.old) → TellsSlices file table (C.state cache.new)) }
         ensures settings { self.new.idle ≡ self.old.idle }
         ensures room { length self.new.requests ≤ length self.old.requests + 1 }
         ensures err { OnErr result (self.new ≡ self.old) }
@@ -524,6 +526,7 @@ impl Session {
         ensures bytes { IfOk result (λ reply. (w : World) (past : List Moment) (file : List ℕ) → Stands w past self.old → HasBytes file self.old →
             IsTrueReply file w past number reply × HasBytes file self.new) }
         ensures settings { self.new.idle ≡ self.old.idle }
+        ensures made { length self.new.requests ≡ length self.old.requests }
         ensures err { OnErr result (self.new ≡ self.old) }
     {
         let reply = self.poll_kept(alloc, number)?;
@@ -535,6 +538,7 @@ impl Session {
         ensures drops { (w : World) (past : List Moment) → Stands w past self.old → IsNext w past (drops number) result self.new }
         ensures bytes { (file : List ℕ) → HasBytes file self.old → HasBytes file self.new }
         ensures settings { self.new.idle ≡ self.old.idle }
+        ensures made { length self.new.requests ≡ length self.old.requests }
     {
         let reply = self.drop_kept(number);
         reply
@@ -617,6 +621,9 @@ impl Session {
         ensures lost { OnErr result (IsLost self.old (R.state reader.old).log (R.state reader.new).log) }
         ensures err_cache { OnErr result (C.state cache.new ≡ C.state cache.old) }
         ensures idle { self.new.idle ≡ self.old.idle }
+        ensures made { length self.new.requests ≡ length self.old.requests }
+        ensures steady { (file : List ℕ) → (R.state reader.old).never_fails ≡ true → (R.state reader.old).bytes ≡ Some file →
+            WaitsWithin (length file) self.old → (R.state reader.new).faults ≡ (R.state reader.old).faults }
         ensures same { SameReader (R.state reader.old) (R.state reader.new) }
         ensures same_cache { SameCache (C.state cache.old) (C.state cache.new) }
     {
@@ -647,11 +654,17 @@ impl Session {
         ensures bad { IfOk result (λ spans. Rises (bad_spans spans.items) (R.state reader.old).faults (R.state reader.new).faults) }
         ensures bytes { (w : World) (past : List Moment) (file : List ℕ) → (R.state reader.old).bytes ≡ Some file → Stands w past self.old →
             HasBytes file self.old → HasBytes file self.new }
+        ensures slices { OnOk result ((w : World) (past : List Moment) (file : List ℕ) → (R.state reader.old).bytes ≡ Some file → Stands w past self.old →
+            HasBytes file self.old → TellsSlices file w.table (C.state cache.old) → TellsSlices file w.table (C.state cache.new)) }
+        // The count of a reader that never fails stands still, where each segment ends within the file.
+        ensures steady { (w : World) (past : List Moment) (file : List ℕ) → (R.state reader.old).never_fails ≡ true → (R.state reader.old).bytes ≡ Some file →
+            Stands w past self.old → EndsWithin (length file) w.table → (R.state reader.new).faults ≡ (R.state reader.old).faults }
         ensures stopped { OnErr result ((w : World) (past : List Moment) → Stands w past self.old →
             StopsDrive w past (R.state reader.old).log (R.state reader.new).log (C.state cache.old) (C.state cache.new) self.new) }
         ensures puts { IfOk result (λ spans. (w : World) (past : List Moment) → Stands w past self.old →
             PutsBy past spans.items (C.state cache.old) (C.state cache.new)) }
         ensures settings { self.new.idle ≡ self.old.idle }
+        ensures made { length self.new.requests ≡ length self.old.requests }
         ensures same { SameReader (R.state reader.old) (R.state reader.new) }
         ensures same_cache { SameCache (C.state cache.old) (C.state cache.new) }
     {

@@ -1,5 +1,4 @@
-use Rattle.std.proofs.Common.{◌∙◌, subst}
-use Rattle.vx_base.specs.declared.answer.ReadAtRequest.{ReadAtRequest}
+use Rattle.std.proofs.Common.{◌∙◌}
 use Rattle.vx_source.proofs.FilingLemmas.{asked-block, asked-lost}
 use Rattle.vx_source.proofs.filing.ask_block.Goals as goal
 

@@ -1,4 +1,4 @@
-use Rattle.std.proofs.Common.{◌<◌, length, ap, ◌∙◌, arith}
+use Rattle.std.proofs.Common.{length, ap, ◌∙◌, arith}
 use Rattle.vx_source.specs.Blocks.{filed_good}
 use Rattle.vx_source.proofs.FilingLemmas.{got, map-more}
 use Rattle.vx_source.proofs.filing.file_good.Goals as goal

@@ -1,6 +1,5 @@
-use Rattle.std.proofs.Common.{[], ◌∷◌, List, sym, subst, arith}
-use Rattle.vx_base.specs.Caches.{Segments, same_cache-then}
-use Rattle.vx_source.specs.Puts.{Gains}
+use Rattle.std.proofs.Common.{[], ◌∷◌, arith}
+use Rattle.vx_base.specs.Caches.{same_cache-then}
 use Rattle.vx_source.proofs.PutLemmas.{gains-none, gains-one, gains-then, nothing-left}
 use Rattle.vx_source.proofs.putting.put_all.Goals as goal
 

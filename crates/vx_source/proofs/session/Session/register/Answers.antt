@@ -1,8 +1,8 @@
-use Rattle.std.proofs.Common.{ℕ, ◌+◌, ◌≤◌, length, sym, ◌∙◌, subst, arith}
+use Rattle.std.proofs.Common.{◌+◌, ◌≤◌, length, sym, ◌∙◌, subst, arith}
 use Rattle.vx_base.specs.Counts.{last_count}
 use Rattle.vx_source.specs.Caching.{HasGot}
 use Rattle.vx_source.specs.Kept.{got_of}
-use Rattle.vx_source.proofs.BytesLemmas.{looks-bytes}
+use Rattle.vx_source.proofs.BytesLemmas.{looks-bytes, old-slices}
 use Rattle.vx_source.proofs.SettingLemmas.{look-registered}
 use Rattle.vx_source.proofs.StepLemmas.{registers-next, asked-is}
 use Rattle.vx_source.proofs.session.Session.register.Goals as goal
@@ -22,6 +22,12 @@ pub returns-clause-bytes : goal.returns-clause-bytes
 returns-clause-bytes g c = λ w past file st h slices.
     rw c.in_ok-reply.ensures.after (looks-bytes file c.args.self.now c.args.id.0 (g.C.SegmentCache.state c.args.cache.now) c.in_ok-look.look h (st.places ∙ sym st.count)
     c.in_ok-look.ensures.is c.in_ok-look.ensures.entry slices)
+
+pub returns-clause-slices : goal.returns-clause-slices
+returns-clause-slices g c = λ file table t.
+    let state = g.C.SegmentCache.state in
+    let got = c.in_ok-look.ensures.got in
+    old-slices file table (state c.args.cache.now) (state c.look.new.cache) got.from got.tells t
 
 pub returns-clause-settings : goal.returns-clause-settings
 returns-clause-settings g c = rw c.in_ok-reply.ensures.after (look-registered c.args.self.now c.args.id.0 c.in_ok-look.look).idle

@@ -1,6 +1,7 @@
-use Rattle.std.proofs.Common.{◌≡◌, ◌≤◌, ◌<◌, ◌++◌, length, arith, ap, ◌∙◌, refl}
+use Rattle.std.proofs.Common.{◌≤◌, length, arith, refl}
 use Rattle.std.proofs.lemmas.Bool.Decides.{nat_tests}
 use Rattle.vx_source.proofs.DriveLemmas.{on-err, lost-block, turned-count}
+use Rattle.vx_source.proofs.InsideLemmas.{block-inside}
 use Rattle.vx_source.proofs.session.Session.turn.Goals as goal
 
 pub returns-in_err-append-clause-lost : goal.returns-in_err-append-clause-lost
@@ -35,3 +36,19 @@ returns-in_err-puts-clause-lost g c =
     let state = g.R.Reader.state in
     on-err c.from_residual-in_err-puts.result _ (lost-block c.args.self.now c.in_ok-spans.spans.items c.in_ok-reports.field-0 (state c.args.reader.now) (state c.ask_block.new.reader)
     c.in_ok-spans.ensures.merge c.in_ok-spans.ensures.few (rw c.as_slice.ensures.value at c.in_ok-reports.ensures.cause))
+
+pub returns-in_err-reports-clause-steady : goal.returns-in_err-reports-clause-steady
+returns-in_err-reports-clause-steady g c = λ file never told inside.
+    (rw c.as_slice.ensures.value at c.in_err-reports.ensures.cause).sound file never told (block-inside file c.args.self.now c.in_ok-spans.spans.items inside c.in_ok-spans.ensures.merge)
+
+pub returns-in_err-puts-clause-steady : goal.returns-in_err-puts-clause-steady
+returns-in_err-puts-clause-steady g c = λ file never told inside.
+    (rw c.as_slice.ensures.value at c.in_ok-reports.ensures.cause).sound file never told (block-inside file c.args.self.now c.in_ok-spans.spans.items inside c.in_ok-spans.ensures.merge)
+
+pub returns-in_err-append-clause-steady : goal.returns-in_err-append-clause-steady
+returns-in_err-append-clause-steady g c = λ file never told inside.
+    (rw c.as_slice.ensures.value at c.in_ok-reports.ensures.cause).sound file never told (block-inside file c.args.self.now c.in_ok-spans.spans.items inside c.in_ok-spans.ensures.merge)
+
+pub returns-clause-steady : goal.returns-clause-steady
+returns-clause-steady g c = λ file never told inside.
+    (rw c.as_slice.ensures.value at c.in_ok-reports.ensures.cause).sound file never told (block-inside file c.args.self.now c.in_ok-spans.spans.items inside c.in_ok-spans.ensures.merge)
