@@ -1,7 +1,5 @@
 pub mod Answering
-pub mod Driving
-pub mod Histories
+pub mod Covering
 pub mod Looking
 pub mod Openings
-pub mod Requests
 pub mod Serves

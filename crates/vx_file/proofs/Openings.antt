@@ -26,15 +26,15 @@ use Rattle.vx_footer.specs.Opening.{tail_checks, least_offset, table_bytes, tabl
 use Rattle.vx_footer.specs.Steps.{done_step, tables_step, step_of, file_step, IsSuffix, HasEnd, asks_bytes}
 use Rattle.vx_footer.proofs.Seen.{step-seen, long_has_end, nat_le-is, was_asked, no_second_request}
 use Rattle.vx_file.specs.declared.opening.Opening.{Opening}
-use Rattle.vx_file.specs.declared.opening.Tail.{Tail}
-use Rattle.vx_file.specs.Logs.{Grew}
+use Rattle.vx_source.specs.declared.tail.Tail.{Tail}
+use Rattle.vx_source.specs.Asks.{Grew}
 use Rattle.vx_file.specs.Hints.{Hints, first_length}
 use Rattle.vx_file.specs.Ranges.{first_start, reached, tail_start, range_before, tail_ranges, opening_range, opened}
 use Rattle.vx_file.specs.Serving.{RefusedFrom, SizeFault, TailFault, StopsOpening, faulty}
 use Rattle.vx_file.specs.declared.served.ServeError.{ServeError}
-use Rattle.vx_file.specs.declared.served.ServeError.TheVariants.{Open, Fault as FaultOf, OutOfMemory}
+use Rattle.vx_file.specs.declared.served.ServeError.TheVariants.{Open, Fault as FaultOf, CacheFault, OutOfMemory}
 use Rattle.vx_file.specs.Tails.{TailFrom, FirstRead, RangeFault, first_range, FirstCause, tail_step, Looks, Finishes, Prefixed, BeforeRead, BeforeCause, IsFound, TailRead, TailCause, FooterCause}
-use Rattle.vx_file.proofs.Driving.{grew-add, rises-add}
+use Rattle.vx_source.proofs.DriveLemmas.{grew-then, rises-then}
 
 -- ---- the step of a file
 
@@ -203,7 +203,7 @@ second hints file before now t offset len h is =
     record { start = says.0; before = says.1; joins = says.2; ranges = ranges-two hints file offset len says.0 says.1 says.2 }
 
 two-grew : (hints : Hints) (file : List ℕ) (offset len : ℕ) (gained : Log) (before mid now : ReaderState) (t : Tail) → FirstRead hints file before mid t → Grew gained mid.log now.log → Grew (opened (first_range hints file ∷ []) ++ gained) before.log now.log
-two-grew hints file offset len gained before mid now t h grew = grew-add (opened (first_range hints file ∷ [])) gained before.log mid.log now.log (first-grew hints file before mid t h) grew
+two-grew hints file offset len gained before mid now t h grew = grew-then (opened (first_range hints file ∷ [])) gained before.log mid.log now.log (first-grew hints file before mid t h) grew
 
 bytes-join : (file : List ℕ) (offset len from : ℕ) → offset + len ≡ from → bytes_at file offset len ++ drop from file ≡ drop offset file
 bytes-join file offset len from joins =
@@ -220,7 +220,7 @@ second-read hints file before mid now t tail offset len h is read =
       tail = subst (λ n. TailFrom file n tail) (sym s.start) at_offset;
       footer = tt;
       asked = subst (λ rs. Grew (opened rs) before.log now.log) (sym s.ranges) (two-grew hints file offset len (opened ((offset, len) ∷ [])) before mid now t h read.asked);
-      rises = rises-add 0 0 before.faults mid.faults now.faults h.rises read.rises;
+      rises = rises-then 0 0 before.faults mid.faults now.faults h.rises read.rises;
     }
 
 pub second-fails : (hints : Hints) (file : List ℕ) (before mid now : ReaderState) (t : Tail) (offset len : ℕ) (fault : Fault) → FirstRead hints file before mid t → tail_step hints t ≡ Ok (NeedMoreData offset len) → RangeFault offset len mid now fault
@@ -283,17 +283,20 @@ all-end n ss h k d lt = nat_le-is _ _ (AllPass-from_list_all (ends_within n) ss 
 pub first-errs : (hints : Hints) (file : List ℕ) (before now : ReaderState) (e : ServeError) → FirstCause hints file before now (Err e) → TailCause hints file before now (Err e)
 first-errs hints file before now (Open e) h = absurd h
 first-errs hints file before now (FaultOf fault) h = first-fails hints file before now fault h
+first-errs hints file before now CacheFault h = absurd h
 first-errs hints file before now OutOfMemory h = asking-first-stops hints file before now h
 
 pub look-errs : (hints : Hints) (file : List ℕ) (before now : ReaderState) (t : Tail) (e : ServeError) → FirstRead hints file before now t → Looks (tail_step hints t) (Err e) → TailCause hints file before now (Err e)
 look-errs hints file before now t (Open e) h is = first-refused hints file before now t e h is
 look-errs hints file before now t (FaultOf fault) h is = absurd is
+look-errs hints file before now t CacheFault h is = absurd is
 look-errs hints file before now t OutOfMemory h is = first-stops hints file before now t h
 
 pub before-errs : (hints : Hints) (file : List ℕ) (before mid now : ReaderState) (t : Tail) (offset len : ℕ) (e : ServeError) → FirstRead hints file before mid t → tail_step hints t ≡ Ok (NeedMoreData offset len)
     → BeforeCause file t offset len mid now (Err e) → TailCause hints file before now (Err e)
 before-errs hints file before mid now t offset len (Open e) h is failed = absurd failed
 before-errs hints file before mid now t offset len (FaultOf fault) h is failed = inr (second-fails hints file before mid now t offset len fault h is failed)
+before-errs hints file before mid now t offset len CacheFault h is failed = absurd failed
 before-errs hints file before mid now t offset len OutOfMemory h is failed = second-stops hints file before mid now t offset len h is failed
 
 -- the range that a tail asks for ends where the tail begins
@@ -324,6 +327,7 @@ pub footer-errs : (hints : Hints) (file : List ℕ) (t : Tail) (footer : Option 
 footer-errs hints file t (Some f) e h known told = absurd (apart e f (known f refl))
 footer-errs hints file t None (Open e) h known told = not-found hints file t e h told
 footer-errs hints file t None (FaultOf fault) h known told = absurd told
+footer-errs hints file t None CacheFault h known told = absurd told
 footer-errs hints file t None OutOfMemory h known told = tt
 
 same_footer : (g f : Footer) → (let ok : Result Footer ServeError = Ok f in ok) ≡ Ok g → f ≡ g

@@ -1,11 +1,9 @@
-pub mod Fits
+pub mod Covered
 pub mod Hints
-pub mod History
-pub mod Kept
 pub mod Logs
-pub mod Queue
+pub mod Memory
 pub mod Ranges
+pub mod Scripts
 pub mod Serving
-pub mod Stands
+pub mod Steps
 pub mod Tails
-pub mod Turns

@@ -1,43 +1,80 @@
 -- What serving a script from a file gives.
-use Rattle.std.specs.Prelude.{◌≡◌, ℕ, ◌<◌, Bool, true, false, List, [], ◌∷◌, ◌++◌, length, map, Some, None, Result, Ok, Err, ◌⊎◌, if◌then◌else◌}
+use Rattle.std.specs.Prelude.{◌≡◌, ℕ, ◌<◌, true, List, [], ◌∷◌, ◌++◌, length, map, Option, Some, None, Result, Ok, Err, IsOk, ◌⊎◌}
+use Rattle.vx_base.specs.Asking.{Log, ranges_of}
+use Rattle.vx_base.specs.Buffer.{Buffer}
+use Rattle.vx_base.specs.Caches.{Segments, CacheState}
 use Rattle.vx_base.specs.Counts.{Rises, last_count}
+use Rattle.vx_base.specs.Readers.{ReaderState, ReaderSettings, settings_of}
+use Rattle.vx_base.specs.declared.answer.Asked.{Asked}
+use Rattle.vx_base.specs.declared.answer.ReadAtRequest.{ReadAtRequest}
+use Rattle.vx_base.specs.declared.segment.SegmentId.{SegmentId}
+use Rattle.vx_base.specs.declared.segment_cache.CacheError.{CacheError}
+use Rattle.vx_base.specs.declared.segment_cache.CacheError.TheVariants as cache_error
 use Rattle.vx_footer.specs.declared.error.OpenError.{OpenError}
 use Rattle.vx_footer.specs.declared.error.OpenError.TheVariants as checks
 use Rattle.vx_footer.specs.Footers.{FooterContent, segment_table}
 use Rattle.vx_footer.specs.Opening.{vx_grammar}
+use Rattle.vx_sched.specs.Outcomes.{size_fault}
 use Rattle.vx_sched.specs.declared.fault.Fault.{Fault}
 use Rattle.vx_sched.specs.declared.fault.Place.TheVariants.{Range}
+use Rattle.vx_source.specs.Asks.{Grew}
+use Rattle.vx_source.specs.Bytes.{TellsSlices}
+use Rattle.vx_source.specs.Fits.{World}
+use Rattle.vx_source.specs.History.{Moment}
+use Rattle.vx_source.specs.Puts.{Gains}
+use Rattle.vx_source.specs.Stands.{world}
+use Rattle.vx_source.specs.declared.reply.Reply.{Reply}
 use Rattle.vx_file.specs.declared.step.Step.{Step}
-use Rattle.vx_file.specs.declared.step.Step.TheVariants.{Register}
 use Rattle.vx_file.specs.declared.served.Served.{Served}
 use Rattle.vx_file.specs.declared.served.ServeError.{ServeError}
 use Rattle.vx_file.specs.declared.served.ServeError.TheVariants as errors
-use Rattle.vx_base.specs.Asking.{Log, ranges_of}
-use Rattle.vx_base.specs.Readers.{ReaderState}
-use Rattle.vx_base.specs.declared.answer.Asked.{Asked}
-use Rattle.vx_base.specs.declared.answer.ReadAtRequest.{ReadAtRequest}
-use Rattle.vx_sched.specs.Outcomes.{size_fault}
-use Rattle.vx_file.specs.Hints.{Hints, no_hints}
+use Rattle.vx_file.specs.Covered.{covered_segments}
+use Rattle.vx_file.specs.Hints.{Hints}
 use Rattle.vx_file.specs.Ranges.{tail_start, tail_ranges, opening_range, opened}
-use Rattle.vx_file.specs.Logs.{Grew, asked_by}
-use Rattle.vx_file.specs.History.{is_among}
-use Rattle.vx_file.specs.Fits.{World, Fits}
-use Rattle.vx_file.specs.Turns.{bad_replies, Stops}
+use Rattle.vx_file.specs.Scripts.{Answers, AreTrue, Leads, Stops, asked_for, bad_replies, cache_failures, put_in}
+
+-- what the replies are about: the segment table, where the tail begins, and the settings of the reader
+abbrev pub world_of : Hints → List ℕ → FooterContent → ReaderSettings → World
+world_of hints file footer settings = world (segment_table footer) settings.distance settings.max_read_size settings.concurrency (Some (tail_start hints file))
+
+-- the segments that the tail of a file covers
+abbrev pub covered_by : Hints → List ℕ → FooterContent → Segments
+covered_by hints file footer = covered_segments file (tail_start hints file) (segment_table footer)
+
+-- the numbers of segments' buffers
+abbrev pub numbers_of : Segments → List ℕ
+numbers_of puts = map (λ (e : SegmentId × Buffer). e.0.0) puts
+
+-- The cache was asked for puts: first those of the covered segments, and then those of the reads of the drives' good
+-- spans, in order. Those that found no memory may be missing from its log.
+pub record Puts (covered : Segments) (history : List Moment) (before now : CacheState) : Type 0 where
+  pub driven : Segments
+  pub numbers : numbers_of driven ≡ put_in history
+  pub gains : Gains (covered ++ driven) before now
+
+-- A script was played over a cache: a history answers it; the covered segments were put into the cache before, and the
+-- history led the cache on from there. Whatever is ready is its segment's bytes where the entries of the cache are.
+-- Each failure that the cache is named for was counted.
+pub record Plays (w : World) (file : List ℕ) (covered : Segments) (script : List Step) (cache cache_now : CacheState) (replies : List Reply) : Type 0 where
+  pub history : List Moment
+  pub answers : Answers w script replies history
+  pub filled : CacheState
+  pub fills : Gains covered cache filled
+  pub leads : Leads w filled history cache_now
+  pub true_of : TellsSlices file w.table cache → AreTrue file w history
+  pub puts : Puts covered history cache cache_now
+  pub failed : Rises (cache_failures replies) cache.faults cache_now.faults
 
 -- the ranges of opening, and then those of the drives
 abbrev pub asked : Served → Log
-asked s = opened s.opening ++ asked_by s.replies
+asked s = opened s.opening ++ asked_for s.replies
 
--- what the replies are about
-abbrev pub world_of : Hints → List ℕ → FooterContent → World
-world_of hints file footer = record { file = file; table = segment_table footer; start = tail_start hints file }
-
--- A script was served from a file: the footer is that of the grammar, the replies fit the script, one
--- for each step, and the reader was asked exactly for the ranges of opening and of the drives.
-pub record ServedFrom (hints : Hints) (file : List ℕ) (script : List Step) (before now : ReaderState) (s : Served) : Type 0 where
+-- A script was served from a file: the footer is that of the grammar, a history answers the script, one reply for each
+-- step, and the reader was asked exactly for the ranges of opening and of the drives.
+pub record ServedFrom (hints : Hints) (file : List ℕ) (script : List Step) (before now : ReaderState) (cache cache_now : CacheState) (s : Served) : Type 0 where
   pub footer : vx_grammar file hints.dtype ≡ Ok s.footer.content
   pub opening : s.opening ≡ tail_ranges hints file
-  pub fits : Fits (world_of hints file s.footer.content) [] script s.replies
+  pub plays : Plays (world_of hints file s.footer.content (settings_of before)) file (covered_by hints file s.footer.content) script cache cache_now s.replies
   pub asked : Grew (asked s) before.log now.log
   pub bad : Rises (bad_replies s.replies) before.faults now.faults
 
@@ -65,6 +102,11 @@ pub record TailFault (hints : Hints) (file : List ℕ) (before now : ReaderState
   pub place : fault.place ≡ Range range.0 range.1
   pub asked : Grew (opened front ++ faulty range fault ∷ []) before.log now.log
 
+-- the cache failed a put of a covered segment, after a file of the grammar was opened
+pub record CacheRefused (hints : Hints) (file : List ℕ) (before now : ReaderState) : Type 0 where
+  pub grammar : IsOk (vx_grammar file hints.dtype)
+  pub asked : Grew (opened (tail_ranges hints file)) before.log now.log
+
 -- ---- what stands after want of memory
 
 -- memory ran out while the file was opened: some of its opening ranges were asked, in order, with any marks
@@ -74,64 +116,58 @@ pub record StopsOpening (hints : Hints) (file : List ℕ) (before now : ReaderSt
   pub ranges : map opening_range (tail_ranges hints file) ≡ ranges_of gained ++ rest
   pub grew : Grew gained before.log now.log
 
--- memory ran out after the file was opened: the steps before were answered, and at most one range more was
--- asked than those of the spans that were read
+-- memory ran out after the file was opened: the steps before were answered, and at most one block more was
+-- asked than the spans that were read
 pub record StopsServing (hints : Hints) (file : List ℕ) (script : List Step) (before now : ReaderState) : Type 0 where
   pub footer : FooterContent
   pub grammar : vx_grammar file hints.dtype ≡ Ok footer
-  pub gained : Log
-  pub stops : Stops (world_of hints file footer) script gained
-  pub grew : Grew (opened (tail_ranges hints file) ++ gained) before.log now.log
+  pub between : Option Log
+  pub opened_all : Grew (opened (tail_ranges hints file)) before.log between
+  pub stops : Stops (world_of hints file footer (settings_of before)) script between now.log
+
+-- what a put of a covered segment that was refused makes of serving
+abbrev pub put_error : CacheError → ServeError
+put_error cache_error.Failed = errors.CacheFault
+put_error cache_error.OutOfMemory = errors.OutOfMemory
 
 -- the answer to a script has its cause, where the reader tells its bytes
-abbrev pub HasCause : Hints → List ℕ → List Step → ReaderState → ReaderState → Result Served ServeError → Type 0
-HasCause hints file script before now (Ok s) = ServedFrom hints file script before now s
-HasCause hints file script before now (Err (errors.Open e)) = RefusedFrom hints file before now e
-HasCause hints file script before now (Err (errors.Fault fault)) = SizeFault hints before now fault ⊎ TailFault hints file before now fault
-HasCause hints file script before now (Err errors.OutOfMemory) = StopsOpening hints file before now ⊎ StopsServing hints file script before now
+abbrev pub HasCause : Hints → List ℕ → List Step → ReaderState → ReaderState → CacheState → CacheState → Result Served ServeError → Type 0
+HasCause hints file script before now cache cache_now (Ok s) = ServedFrom hints file script before now cache cache_now s
+HasCause hints file script before now cache cache_now (Err (errors.Open e)) = RefusedFrom hints file before now e
+HasCause hints file script before now cache cache_now (Err (errors.Fault fault)) = SizeFault hints before now fault ⊎ TailFault hints file before now fault
+HasCause hints file script before now cache cache_now (Err errors.CacheFault) = CacheRefused hints file before now
+HasCause hints file script before now cache cache_now (Err errors.OutOfMemory) = StopsOpening hints file before now ⊎ StopsServing hints file script before now
 
--- a fault is answered only where the count of faults rose
-abbrev pub FaultRose : {A : Type 0} → ReaderState → ReaderState → Result A ServeError → Type 0
-FaultRose before now (Ok s) = Unit {0}
-FaultRose before now (Err (errors.Open e)) = Unit {0}
-FaultRose before now (Err (errors.Fault fault)) = Rises 1 before.faults now.faults
-FaultRose before now (Err errors.OutOfMemory) = Unit {0}
+-- opening answers a fault only where the count of faults rose
+abbrev pub OpeningRose : {A : Type 0} → ReaderState → ReaderState → Result A ServeError → Type 0
+OpeningRose before now (Ok s) = Unit {0}
+OpeningRose before now (Err (errors.Open e)) = Unit {0}
+OpeningRose before now (Err (errors.Fault fault)) = Rises 1 before.faults now.faults
+OpeningRose before now (Err errors.CacheFault) = ⊥
+OpeningRose before now (Err errors.OutOfMemory) = Unit {0}
+
+-- a fault is answered only where the count of faults rose, of the reader or of the cache
+abbrev pub FaultRose : {A : Type 0} → ReaderState → ReaderState → CacheState → CacheState → Result A ServeError → Type 0
+FaultRose before now cache cache_now (Ok s) = Unit {0}
+FaultRose before now cache cache_now (Err (errors.Open e)) = Unit {0}
+FaultRose before now cache cache_now (Err (errors.Fault fault)) = Rises 1 before.faults now.faults
+FaultRose before now cache cache_now (Err errors.CacheFault) = Rises 1 cache.faults cache_now.faults
+FaultRose before now cache cache_now (Err errors.OutOfMemory) = Unit {0}
 
 -- want of memory is never told as a refusal
 abbrev pub NamesCheck : {A : Type 0} → Result A ServeError → Type 0
 NamesCheck (Err (errors.Open checks.OutOfMemory)) = ⊥
 NamesCheck answer = Unit {0}
 
--- no count rose
-pub record StandsStill (before now : ReaderState) : Type 0 where
-  pub same : now.faults ≡ before.faults
-  pub below : before.faults < last_count
+-- a count did not rise
+pub record StandsStill (before now : ℕ) : Type 0 where
+  pub same : now ≡ before
+  pub below : before < last_count
 
 -- the script was served, or memory was wanting
 abbrev pub Succeeds : Result Served ServeError → Type 0
 Succeeds (Ok s) = Unit {0}
 Succeeds (Err (errors.Open e)) = ⊥
 Succeeds (Err (errors.Fault fault)) = ⊥
+Succeeds (Err errors.CacheFault) = ⊥
 Succeeds (Err errors.OutOfMemory) = Unit {0}
-
--- A script was served from a file in memory, no read of which fails: the footer is that of the grammar, the
--- replies fit the script, one for each step, and no span is bad.
-pub record ServedWhole (file : List ℕ) (script : List Step) (s : Served) : Type 0 where
-  pub footer : vx_grammar file None ≡ Ok s.footer.content
-  pub opening : s.opening ≡ tail_ranges no_hints file
-  pub fits : Fits (world_of no_hints file s.footer.content) [] script s.replies
-  pub good : bad_replies s.replies ≡ 0
-
--- a file in memory is served where it is in the grammar, and else refused by the name of the check that it fails,
--- or memory runs out
-abbrev pub ServesMemory : List ℕ → List Step → Result Served ServeError → Type 0
-ServesMemory file script (Ok s) = ServedWhole file script s
-ServesMemory file script (Err (errors.Open e)) = vx_grammar file None ≡ Err e
-ServesMemory file script (Err (errors.Fault fault)) = ⊥
-ServesMemory file script (Err errors.OutOfMemory) = Unit {0}
-
--- whether a script registers a segment that it, or one of these, was registered before
-abbrev pub repeats : List ℕ → List Step → Bool
-repeats seen [] = false
-repeats seen (Register segment ∷ steps) = if is_among segment seen then true else repeats (segment ∷ seen) steps
-repeats seen (step ∷ steps) = repeats seen steps

@@ -17,10 +17,10 @@ use Rattle.vx_footer.specs.Steps.{step_of, asks_bytes}
 use Rattle.vx_file.specs.declared.opening.Look.{Look}
 use Rattle.vx_file.specs.declared.opening.Look.TheVariants.{Whole, Before}
 use Rattle.vx_file.specs.declared.opening.Opening.{Opening}
-use Rattle.vx_file.specs.declared.opening.Tail.{Tail}
+use Rattle.vx_source.specs.declared.tail.Tail.{Tail}
 use Rattle.vx_file.specs.declared.served.ServeError.{ServeError}
 use Rattle.vx_file.specs.declared.served.ServeError.TheVariants as errors
-use Rattle.vx_file.specs.Logs.{Grew}
+use Rattle.vx_source.specs.Asks.{Grew}
 use Rattle.vx_file.specs.Hints.{Hints, IsSizeOf}
 use Rattle.vx_file.specs.Ranges.{first_start, tail_start, tail_ranges, opening_range, opened}
 use Rattle.vx_file.specs.Serving.{RefusedFrom, SizeFault, TailFault, StopsOpening, faulty}
@@ -63,6 +63,7 @@ abbrev pub FirstCause : Hints → List ℕ → ReaderState → ReaderState → R
 FirstCause hints file before now (Ok t) = FirstRead hints file before now t
 FirstCause hints file before now (Err (errors.Open e)) = ⊥
 FirstCause hints file before now (Err (errors.Fault fault)) = SizeFault hints before now fault ⊎ RangeFault (first_range hints file).0 (first_range hints file).1 before now fault
+FirstCause hints file before now (Err errors.CacheFault) = ⊥
 FirstCause hints file before now (Err errors.OutOfMemory) = GrewOrStayed (opening_range (first_range hints file) ∷ []) before.log now.log
 
 -- ---- what a tail tells
@@ -81,6 +82,7 @@ Refuses (Ok x) = Unit {0}
 Refuses (Err (errors.Open checks.OutOfMemory)) = ⊥
 Refuses (Err (errors.Open e)) = Unit {0}
 Refuses (Err (errors.Fault fault)) = ⊥
+Refuses (Err errors.CacheFault) = ⊥
 Refuses (Err errors.OutOfMemory) = Unit {0}
 
 abbrev pub Looks : Result DeserializeStep OpenError → Result Look ServeError → Type 0
@@ -88,12 +90,14 @@ Looks step (Ok (Whole footer)) = step ≡ Ok (Done footer)
 Looks step (Ok (Before offset len)) = step ≡ Ok (NeedMoreData offset len)
 Looks step (Err (errors.Open e)) = step ≡ Err e
 Looks step (Err (errors.Fault fault)) = ⊥
+Looks step (Err errors.CacheFault) = ⊥
 Looks step (Err errors.OutOfMemory) = Unit {0}
 
 abbrev pub Finishes : Result DeserializeStep OpenError → Result Footer ServeError → Type 0
 Finishes step (Ok footer) = step ≡ Ok (Done footer)
 Finishes step (Err (errors.Open e)) = step ≡ Err e
 Finishes step (Err (errors.Fault fault)) = ⊥
+Finishes step (Err errors.CacheFault) = ⊥
 Finishes step (Err errors.OutOfMemory) = Unit {0}
 
 -- ---- what lies before a tail
@@ -116,6 +120,7 @@ abbrev pub BeforeCause : List ℕ → Tail → ℕ → ℕ → ReaderState → R
 BeforeCause file t offset len before now (Ok tail) = BeforeRead file t offset len before now tail
 BeforeCause file t offset len before now (Err (errors.Open e)) = ⊥
 BeforeCause file t offset len before now (Err (errors.Fault fault)) = RangeFault offset len before now fault
+BeforeCause file t offset len before now (Err errors.CacheFault) = ⊥
 BeforeCause file t offset len before now (Err errors.OutOfMemory) = GrewOrStayed (opening_range (offset, len) ∷ []) before.log now.log
 
 -- ---- the whole tail
@@ -142,6 +147,7 @@ abbrev pub TailCause : Hints → List ℕ → ReaderState → ReaderState → Re
 TailCause hints file before now (Ok o) = TailRead hints file before now o
 TailCause hints file before now (Err (errors.Open e)) = RefusedFrom hints file before now e
 TailCause hints file before now (Err (errors.Fault fault)) = SizeFault hints before now fault ⊎ TailFault hints file before now fault
+TailCause hints file before now (Err errors.CacheFault) = ⊥
 TailCause hints file before now (Err errors.OutOfMemory) = StopsOpening hints file before now
 
 -- the footer of a file, or its refusal
@@ -149,4 +155,5 @@ abbrev pub FooterCause : Hints → List ℕ → Result Footer ServeError → Typ
 FooterCause hints file (Ok footer) = vx_grammar file hints.dtype ≡ Ok footer.content
 FooterCause hints file (Err (errors.Open e)) = vx_grammar file hints.dtype ≡ Err e
 FooterCause hints file (Err (errors.Fault fault)) = ⊥
+FooterCause hints file (Err errors.CacheFault) = ⊥
 FooterCause hints file (Err errors.OutOfMemory) = Unit {0}

@@ -6,7 +6,7 @@ ghost use Rattle.vx_footer.specs.Opening.{EndsWithin};
 ghost use Rattle.vx_footer.specs.Steps.{asks_bytes};
 ghost use Rattle.vx_file.specs.Hints.{IsSizeOf};
 ghost use Rattle.vx_file.specs.Ranges.{tail_start};
-ghost use Rattle.vx_file.specs.Serving.{FaultRose, NamesCheck};
+ghost use Rattle.vx_file.specs.Serving.{OpeningRose, NamesCheck};
 ghost use Rattle.vx_file.specs.Tails.{SizeCause, tail_step, refused_as, Refuses, Looks, Finishes, FirstCause, Prefixed, BeforeCause, TailFrom, IsFound, IsSettled, TailCause, FooterCause};
 
 use crate::reading::read_range;
@@ -16,13 +16,7 @@ use vx_base::{Alignment, ByteBuffer, ReadAtRequest, Reader};
 use vx_data::VortexSession;
 use vx_footer::{DeserializeStep, Footer, FooterDeserializer, OpenError};
 use vx_sched::{Fault, ask_size};
-
-/// The last bytes of a file, which begin at `start`.
-#[derive(Drop)]
-pub struct Tail {
-    pub start: u64,
-    pub bytes: ByteBuffer,
-}
+use vx_source::Tail;
 
 /// What a tail tells of its file: the footer, or that bytes before the tail are needed.
 #[derive(Drop)]
@@ -59,7 +53,7 @@ fn read_last<R: Reader>(
 ) -> Result<Tail, ServeError>
     ensures cause { (file : List ℕ) → (R.state reader.old).bytes ≡ Some file → IsSizeOf options.now.size file →
         FirstCause options.now file (R.state reader.old) (R.state reader.new) result }
-    ensures rose { FaultRose (R.state reader.old) (R.state reader.new) result }
+    ensures rose { OpeningRose (R.state reader.old) (R.state reader.new) result }
     ensures names { NamesCheck result }
     ensures steady { (file : List ℕ) → (R.state reader.old).never_fails ≡ true → (R.state reader.old).bytes ≡ Some file →
         IsSizeOf options.now.size file → (R.state reader.new).faults ≡ (R.state reader.old).faults }
@@ -164,7 +158,7 @@ fn read_before<R: Reader>(
     ensures cause { (file : List ℕ) → (R.state reader.old).bytes ≡ Some file →
         BeforeCause file tail.now offset len (R.state reader.old) (R.state reader.new) result }
     ensures prefixed { IfOk result (Prefixed offset len tail.now) }
-    ensures rose { FaultRose (R.state reader.old) (R.state reader.new) result }
+    ensures rose { OpeningRose (R.state reader.old) (R.state reader.new) result }
     ensures names { NamesCheck result }
     ensures steady { (file : List ℕ) → (R.state reader.old).never_fails ≡ true → (R.state reader.old).bytes ≡ Some file →
         tail.now.start ≤ length file → (R.state reader.new).faults ≡ (R.state reader.old).faults }
@@ -189,7 +183,7 @@ pub(crate) fn read_tail<R: Reader>(
 ) -> Result<Opening, ServeError>
     ensures cause { (file : List ℕ) → (R.state reader.old).bytes ≡ Some file → IsSizeOf options.now.size file →
         TailCause options.now file (R.state reader.old) (R.state reader.new) result }
-    ensures rose { FaultRose (R.state reader.old) (R.state reader.new) result }
+    ensures rose { OpeningRose (R.state reader.old) (R.state reader.new) result }
     ensures names { NamesCheck result }
     ensures steady { (file : List ℕ) → (R.state reader.old).never_fails ≡ true → (R.state reader.old).bytes ≡ Some file →
         IsSizeOf options.now.size file → (R.state reader.new).faults ≡ (R.state reader.old).faults }

@@ -1,12 +1,12 @@
 //! What serving a script gives.
 ghost use Rattle.std.specs.Prelude.{◌≡◌};
 
-use crate::Reply;
 use std::alloc::AllocError;
 use thiserror::Error;
-use vx_base::Sequence;
+use vx_base::{CacheError, Sequence};
 use vx_footer::{Footer, OpenError};
 use vx_sched::Fault;
+use vx_source::Reply;
 
 /// A footer, the ranges that opening asked, and one reply for each step of a script.
 #[derive(Drop)]
@@ -25,8 +25,24 @@ pub enum ServeError {
     /// The size or an opening range could not be read.
     #[error("a read failed")]
     Fault(Fault),
+    /// The cache failed to take a segment that the tail covers.
+    #[error("the cache failed")]
+    CacheFault,
     #[error("out of memory")]
     OutOfMemory,
+}
+
+impl From<CacheError> for ServeError {
+    ghost use Rattle.vx_file.specs.Serving.{put_error};
+
+    ghost from_gives = { λ e error. error ≡ put_error e };
+
+    fn from(error: CacheError) -> ServeError {
+        match error {
+            CacheError::Failed => ServeError::CacheFault,
+            CacheError::OutOfMemory => ServeError::OutOfMemory,
+        }
+    }
 }
 
 impl From<AllocError> for ServeError {

@@ -7,6 +7,8 @@ pub enum Step {
     Register(u32),
     /// Polls a request, by the number that its register answered.
     Poll(u64),
+    /// Drops a request, by that number.
+    Drop(u64),
     /// Reads what was polled and waits.
     Drive,
 }

@@ -9,7 +9,6 @@ use Rattle.vx_footer.specs.declared.error.OpenError.{OpenError}
 use Rattle.vx_footer.specs.Opening.{vx_grammar}
 use Rattle.vx_file.specs.declared.step.Step.{Step}
 use Rattle.vx_file.specs.declared.served.Served.{Served}
-use Rattle.vx_file.specs.Serving.{repeats}
 use Rattle.vx_write.specs.Column.{written}
 use Rattle.vx_main.specs.declared.answer.Answer.{Answer}
 use Rattle.vx_main.specs.declared.answer.Answer.TheVariants as answers
@@ -24,7 +23,7 @@ use Rattle.vx_main.specs.Command.{names_of, reads_script, serve_hints}
 use Rattle.vx_file.specs.Hints.{Hints, IsSizeOf}
 use Rattle.vx_main.specs.Demo.{Demonstrates, DemoCause}
 use Rattle.vx_main.specs.Failures.{HasCause, LeavesFiles}
-use Rattle.vx_main.specs.Input.{ReadsScript, ScriptCause, BadLine, BadScript, BadLength}
+use Rattle.vx_main.specs.Input.{ReadsScript, ScriptCause, BadLine, BadLength}
 use Rattle.vx_main.specs.Outputs.{IsTold, IsTrueSize, wanted_status, input_status, script_status, file_status, grammar_status}
 use Rattle.vx_main.specs.Outside.{outside}
 use Rattle.vx_main.specs.Runs.{Gathers}
@@ -42,12 +41,6 @@ line-status : (line : ℕ) (before now : SourceState) (rest : Option (List ℕ))
 line-status line before now None file e told h = absurd cc
 line-status line before now (Some text) file e told h = let k = h text e in short-status text file k.0.short ∙ ap (λ s. script_status s file) k.1
 
-twice-status : (before now : SourceState) (rest : Option (List ℕ)) (file : ℕ) → before.rest ≡ rest → is_some rest ≡ true → BadScript before now → input_status rest file ≡ 3
-twice-status before now None file e told h = absurd cc
-twice-status before now (Some text) file e told h =
-    let k = h text e in
-    short-status text file k.0.short ∙ ap (λ s. script_status s file) k.1.1 ∙ ap (λ t. cond t 3 file) k.1.2
-
 long-status : (before now : SourceState) (rest : Option (List ℕ)) (file : ℕ) → before.rest ≡ rest → is_some rest ≡ true → BadLength before now → input_status rest file ≡ 9
 long-status before now None file e told h = absurd cc
 long-status before now (Some text) file e told h = ap (λ long. cond long 9 (script_status (script_of text) file)) (lt-ltb MOST_INPUT (length text) (h text e).long)
@@ -56,8 +49,8 @@ long-status before now (Some text) file e told h = ap (λ long. cond long 9 (scr
 read-status : (before now : SourceState) (steps : List Step) (rest : Option (List ℕ)) (file : ℕ) → before.rest ≡ rest → is_some rest ≡ true → ReadsScript before now steps → input_status rest file ≡ file
 read-status before now steps None file e told h = absurd cc
 read-status before now steps (Some text) file e told h =
-    let k = h.spelled text e in
-    short-status text file k.0.short ∙ ap (λ s. script_status s file) k.1 ∙ ap (λ t. cond t 3 file) h.distinct
+    let k = h text e in
+    short-status text file k.0.short ∙ ap (λ s. script_status s file) k.1
 
 -- ---- the script is wanting
 
@@ -70,12 +63,6 @@ script-fails c file source source_now files (failures.Line line) reads wanted to
   each = λ out. record {
     fault = record { reads = reads; wants = h; files = refl; out = refl };
     deserved = λ t. wanted out ∙ line-status line source source_now source.rest file refl (told out t) h;
-  };
-}
-script-fails c file source source_now files failures.Script reads wanted told leaves h = record {
-  each = λ out. record {
-    fault = record { reads = reads; wants = h; files = refl; out = refl };
-    deserved = λ t. wanted out ∙ twice-status source source_now source.rest file refl (told out t) h;
   };
 }
 script-fails c file source source_now files (failures.Refused refusal) reads wanted told leaves h = absurd h
@@ -107,7 +94,6 @@ pub serve-fails : (s : serve.Serve) (steps : List Step) (source source_now : Sou
     → FileCause (serve_hints s) s.name steps files files_now (Err failure) → Gathers (commands.Serve s) source source_now files files_now (Err failure)
 serve-fails s steps source source_now files files_now failures.Usage script h = absurd h
 serve-fails s steps source source_now files files_now (failures.Line line) script h = absurd h
-serve-fails s steps source source_now files files_now failures.Script script h = absurd h
 serve-fails s steps source source_now files files_now (failures.Refused refusal) script h = record {
   each = λ out. record {
     name = s.name;
@@ -173,7 +159,6 @@ pub demo-fails : (d : demo.Demo) (steps : List Step) (source source_now : Source
     → Gathers (commands.Demo d) source source_now files files (Err failure)
 demo-fails d steps source source_now files failures.Usage h = absurd h
 demo-fails d steps source source_now files (failures.Line line) h = absurd h
-demo-fails d steps source source_now files failures.Script h = absurd h
 demo-fails d steps source source_now files (failures.Refused refusal) h = absurd h
 demo-fails d steps source source_now files (failures.Read fault) h = absurd h
 demo-fails d steps source source_now files failures.Input h = absurd h

@@ -4,7 +4,6 @@ pub mod HexLemmas
 pub mod LayoutLines
 pub mod Lines
 pub mod Lists
-pub mod Noting
 pub mod OptionLemmas
 pub mod Openings
 pub mod Performing

@@ -25,9 +25,8 @@ use Rattle.vx_main.specs.Served.{ReaderCause, ReaderFault, FileCause, GivesBack,
 use Rattle.vx_main.specs.Streams.{ReadToEnd}
 
 pub script-cause : (before now : SourceState) (text : List ℕ) (answer : Result (Vec Step Global) Failure) → ((t : List ℕ) → before.rest ≡ Some t → (text ≡ t) × ReadToEnd t now) → StepsCause text answer → ScriptCause before now answer
-script-cause before now text (Ok steps) read h = record { spelled = λ t told. let r = read t told in (r.1, subst (λ x. script_of x ≡ Ok steps.items) r.0 h.0); distinct = h.1 }
+script-cause before now text (Ok steps) read h = λ t told. let r = read t told in (r.1, subst (λ x. script_of x ≡ Ok steps.items) r.0 h)
 script-cause before now text (Err (failures.Line line)) read h = λ t told. let r = read t told in (r.1, subst (λ x. script_of x ≡ Err line) r.0 h)
-script-cause before now text (Err failures.Script) read h = λ t told. let r = read t told in (r.1, subst (λ x. (steps : List Step) × (script_of x ≡ Ok steps) × (repeats [] steps ≡ true)) r.0 h)
 script-cause before now text (Err failures.OutOfMemory) read h = tt
 script-cause before now text (Err failures.Usage) read h = absurd h
 script-cause before now text (Err (failures.Refused refusal)) read h = absurd h
@@ -95,7 +94,6 @@ file-cause hints name script before now opened served (Err (failures.Read fault)
 file-cause hints name script before now opened served (Err (failures.Refused refusal)) lent cause read = (lent.asked, gave-back name before now opened served lent, λ file told sized. refuses hints file name refusal before now opened served lent (cause file (lent.told file told) sized))
 file-cause hints name script before now opened served (Err failures.OutOfMemory) lent cause read = inr (record { asked = lent.asked; back = inl (gave-back name before now opened served lent) })
 file-cause hints name script before now opened served (Err (failures.Line line)) lent cause read = absurd read
-file-cause hints name script before now opened served (Err failures.Script) lent cause read = absurd read
 file-cause hints name script before now opened served (Err failures.Usage) lent cause read = absurd read
 file-cause hints name script before now opened served (Err failures.Input) lent cause read = absurd read
 file-cause hints name script before now opened served (Err failures.Output) lent cause read = absurd read

@@ -30,7 +30,6 @@ unparsed (Some c) before failures.Usage h = absurd cc
 unparsed None before failures.OutOfMemory h = absurd cc
 unparsed (Some c) before failures.OutOfMemory h = record { files = leaves-same c before.files; out = inl refl }
 unparsed command before (failures.Line line) h = absurd h
-unparsed command before failures.Script h = absurd h
 unparsed command before (failures.Refused refusal) h = absurd h
 unparsed command before (failures.Read fault) h = absurd h
 unparsed command before failures.Input h = absurd h

@@ -11,6 +11,7 @@ use Rattle.vx_main.specs.declared.failure.Failure.{Failure}
 use Rattle.vx_main.specs.declared.failure.Failure.TheVariants as failures
 use Rattle.vx_main.specs.Numbers.{value_of}
 use Rattle.vx_main.specs.Options.{OptionShape, once, are_options, values_of, optional_number}
+use Rattle.vx_main.specs.Reading.{ReadingValue, reading_of, settings_by, new_cache}
 
 -- ---- names and values
 
@@ -44,21 +45,35 @@ abbrev pub alone : Command → List (List ℕ) → Option Command
 alone c [] = Some c
 alone c (word ∷ words) = None
 
--- the size of the file, and how many bytes the first read is to ask for
+-- the size of the file, how many bytes the first read is to ask for, and how segments are read
 abbrev pub serve_shapes : List OptionShape
-serve_shapes = once (codes "--size") 1 ∷ once (codes "--initial") 1 ∷ []
+serve_shapes =
+    once (codes "--size") 1 ∷ once (codes "--initial") 1 ∷ once (codes "--distance") 1 ∷ once (codes "--max") 1 ∷ once (codes "--reads") 1 ∷ once (codes "--cache") 1 ∷ []
 
-abbrev pub served_by : List ℕ → Option (Option ℕ) → Option (Option ℕ) → Option serve.Serve
-served_by name None initial = None
-served_by name (Some size) None = None
-served_by name (Some size) (Some initial) = Some (record { name = name; size = size; initial = unwrap_or initial 0 })
+abbrev pub reading_by : Option (Option ℕ) → Option (Option ℕ) → Option (Option ℕ) → Option (Option ℕ) → Option ReadingValue
+reading_by None max reads kept = None
+reading_by (Some distance) None reads kept = None
+reading_by (Some distance) (Some max) None kept = None
+reading_by (Some distance) (Some max) (Some reads) None = None
+reading_by (Some distance) (Some max) (Some reads) (Some kept) = reading_of distance max reads kept
+
+abbrev pub served_by : List ℕ → Option (Option ℕ) → Option (Option ℕ) → Option ReadingValue → Option serve.Serve
+served_by name None initial reading = None
+served_by name (Some size) None reading = None
+served_by name (Some size) (Some initial) None = None
+served_by name (Some size) (Some initial) (Some reading) = Some (record { name = name; size = size; initial = unwrap_or initial 0; reading = reading })
+
+-- the number of an option of `serve`, where it is given
+abbrev pub serve_number : List (List ℕ) → List ℕ → Option (Option ℕ)
+serve_number words option = optional_number (values_of serve_shapes option words)
 
 -- a name, and options behind it
 abbrev pub serve_behind : Option (List ℕ) → List (List ℕ) → Option serve.Serve
 serve_behind None words = None
 serve_behind (Some name) words =
     if are_options serve_shapes words then
-    served_by name (optional_number (values_of serve_shapes (codes "--size") words)) (optional_number (values_of serve_shapes (codes "--initial") words))
+    served_by name (serve_number words (codes "--size")) (serve_number words (codes "--initial"))
+    (reading_by (serve_number words (codes "--distance")) (serve_number words (codes "--max")) (serve_number words (codes "--reads")) (serve_number words (codes "--cache")))
     else None
 
 abbrev pub serve_of : List (List ℕ) → Option Command

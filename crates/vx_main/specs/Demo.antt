@@ -5,7 +5,7 @@ use Rattle.vx_footer.specs.Footers.{FooterContent}
 use Rattle.vx_footer.specs.Opening.{vx_grammar}
 use Rattle.vx_file.specs.declared.step.Step.{Step}
 use Rattle.vx_file.specs.declared.served.Served.{Served}
-use Rattle.vx_file.specs.Serving.{ServedWhole}
+use Rattle.vx_file.specs.Memory.{ServedWhole}
 use Rattle.vx_write.specs.Column.{written, rows}
 use Rattle.vx_main.specs.declared.failure.Failure.{Failure}
 use Rattle.vx_main.specs.declared.failure.Failure.TheVariants as failures

@@ -15,7 +15,7 @@ use Rattle.vx_main.specs.declared.failure.Failure.{Failure}
 use Rattle.vx_main.specs.declared.failure.Failure.TheVariants as failures
 use Rattle.vx_file.specs.Hints.{IsSizeOf}
 use Rattle.vx_main.specs.Command.{names_of, reads_script, hints_of}
-use Rattle.vx_main.specs.Input.{ReadsScript, BadLine, BadScript, BadLength}
+use Rattle.vx_main.specs.Input.{ReadsScript, BadLine, BadLength}
 use Rattle.vx_main.specs.Outputs.{IsAnswer, text_of, Deserves}
 use Rattle.vx_main.specs.Outside.{Outside}
 use Rattle.vx_main.specs.Refusals.{refusal_words}
@@ -27,7 +27,6 @@ use Rattle.vx_main.specs.Served.{GaveBack, LeavesOpener, RefusesFile, LacksSize,
 abbrev pub status_of : Failure → ℕ
 status_of failures.Usage = 2
 status_of (failures.Line line) = 3
-status_of failures.Script = 3
 status_of (failures.Refused refusal) = 4
 status_of (failures.Read fault) = 5
 status_of failures.Input = 6
@@ -44,7 +43,6 @@ read_words fault (Range offset size) = fault_words fault
 abbrev pub failure_words : Failure → List ℕ
 failure_words failures.Usage = codes "usage"
 failure_words (failures.Line line) = codes "line " ++ decimal line
-failure_words failures.Script = codes "script"
 failure_words (failures.Refused refusal) = refusal_words refusal
 failure_words (failures.Read fault) = codes "read " ++ read_words fault fault.place
 failure_words failures.Input = codes "input"
@@ -136,7 +134,6 @@ pub record Stopped (c : Command) (before now : Outside) : Type 0 where
 abbrev pub HasCause : Command → Outside → Outside → Failure → Type 0
 HasCause c before now failures.Usage = ⊥
 HasCause c before now (failures.Line line) = BadInput c before now 3 (BadLine line)
-HasCause c before now failures.Script = BadInput c before now 3 BadScript
 HasCause c before now failures.InputTooLong = BadInput c before now 9 BadLength
 HasCause c before now failures.Input = ScriptFault c before now SourceFails
 HasCause c before now (failures.Open name) = OpenFault c before now name

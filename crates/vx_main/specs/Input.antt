@@ -4,7 +4,6 @@ use Rattle.std.specs.Global.{Global}
 use Rattle.vx_base.specs.Counts.{Rises}
 use Rattle.vx_base.specs.Streams.{SourceState}
 use Rattle.vx_file.specs.declared.step.Step.{Step}
-use Rattle.vx_file.specs.Serving.{repeats}
 use Rattle.vx_main.specs.declared.script.ScriptError.{ScriptError}
 use Rattle.vx_main.specs.declared.script.ScriptError.TheVariants.{Line, OutOfMemory}
 use Rattle.vx_main.specs.declared.failure.Failure.{Failure}
@@ -12,19 +11,13 @@ use Rattle.vx_main.specs.declared.failure.Failure.TheVariants as failures
 use Rattle.vx_main.specs.Script.{script_of}
 use Rattle.vx_main.specs.Streams.{ReadToEnd, TooLong}
 
--- the input was read to its end, and these are the steps that it spells: no segment is registered twice
-pub record ReadsScript (before now : SourceState) (steps : List Step) : Type 0 where
-  pub spelled : (text : List ℕ) → before.rest ≡ Some text → ReadToEnd text now × (script_of text ≡ Ok steps)
-  pub distinct : repeats [] steps ≡ false
+-- the input was read to its end, and these are the steps that it spells
+abbrev pub ReadsScript : SourceState → SourceState → List Step → Type 0
+ReadsScript before now steps = (text : List ℕ) → before.rest ≡ Some text → ReadToEnd text now × (script_of text ≡ Ok steps)
 
 -- the input, read to its end, has this line first that is no step
 abbrev pub BadLine : ℕ → SourceState → SourceState → Type 0
 BadLine line before now = (text : List ℕ) → before.rest ≡ Some text → ReadToEnd text now × (script_of text ≡ Err line)
-
--- the input, read to its end, registers a segment twice
-abbrev pub BadScript : SourceState → SourceState → Type 0
-BadScript before now = (text : List ℕ) → before.rest ≡ Some text → ReadToEnd text now ×
-    ((steps : List Step) × (script_of text ≡ Ok steps) × (repeats [] steps ≡ true))
 
 -- the input has more bytes than it may
 abbrev pub BadLength : SourceState → SourceState → Type 0
@@ -34,7 +27,6 @@ BadLength before now = (text : List ℕ) → before.rest ≡ Some text → TooLo
 abbrev pub ScriptCause : SourceState → SourceState → Result (Vec Step Global) Failure → Type 0
 ScriptCause before now (Ok steps) = ReadsScript before now steps.items
 ScriptCause before now (Err (failures.Line line)) = BadLine line before now
-ScriptCause before now (Err failures.Script) = BadScript before now
 ScriptCause before now (Err failures.Input) = Rises 1 before.faults now.faults
 ScriptCause before now (Err failures.InputTooLong) = BadLength before now
 ScriptCause before now (Err failures.OutOfMemory) = Unit {0}
@@ -48,8 +40,7 @@ script_failure OutOfMemory = failures.OutOfMemory
 
 -- what reading a script from a text gave has its cause
 abbrev pub StepsCause : List ℕ → Result (Vec Step Global) Failure → Type 0
-StepsCause text (Ok steps) = (script_of text ≡ Ok steps.items) × (repeats [] steps.items ≡ false)
+StepsCause text (Ok steps) = script_of text ≡ Ok steps.items
 StepsCause text (Err (failures.Line line)) = script_of text ≡ Err line
-StepsCause text (Err failures.Script) = (steps : List Step) × (script_of text ≡ Ok steps) × (repeats [] steps ≡ true)
 StepsCause text (Err failures.OutOfMemory) = Unit {0}
 StepsCause text (Err _) = ⊥

@@ -8,6 +8,7 @@ pub mod Numbers
 pub mod Options
 pub mod Outputs
 pub mod Outside
+pub mod Reading
 pub mod Refusals
 pub mod Render
 pub mod Runs

@@ -4,7 +4,6 @@ use Rattle.vx_base.specs.Openers.{AsksFor}
 use Rattle.vx_footer.specs.Opening.{vx_grammar}
 use Rattle.vx_file.specs.declared.step.Step.{Step}
 use Rattle.vx_file.specs.declared.served.Served.{Served}
-use Rattle.vx_file.specs.Serving.{repeats}
 use Rattle.vx_write.specs.Column.{written}
 use Rattle.vx_main.specs.declared.answer.Answer.{Answer}
 use Rattle.vx_main.specs.declared.answer.Answer.TheVariants as answers
@@ -17,6 +16,7 @@ use Rattle.vx_main.specs.Demo.{Demonstrates}
 use Rattle.vx_main.specs.Help.{help_text}
 use Rattle.vx_main.specs.Input.{ReadsScript}
 use Rattle.vx_main.specs.Outside.{Outside}
+use Rattle.vx_main.specs.Reading.{ReadingValue, settings_by, new_cache}
 use Rattle.vx_main.specs.Render.{render_text}
 use Rattle.vx_main.specs.Script.{script_of}
 use Rattle.vx_main.specs.Served.{ServesFile, GaveBack}
@@ -38,15 +38,16 @@ pub record IsFixed (fixed : Answer) (before now : Outside) (answer : Answer) : T
   pub source : now.source ≡ before.source
   pub files : now.files ≡ before.files
 
--- the script of the input was served from the file of a name
-pub record IsServed (hints : Hints) (name : List ℕ) (before now : Outside) (answer : Answer) : Type 0 where
+-- the script of the input was served from the file of a name, read as the words say
+pub record IsServed (hints : Hints) (reading : ReadingValue) (name : List ℕ) (before now : Outside) (answer : Answer) : Type 0 where
   pub served : Served
   pub is : answer ≡ answers.Served served
   pub steps : List Step
   pub script : ReadsScript before.source now.source steps
   pub asked : AsksFor name before.files now.files
   pub back : GaveBack name before.files now.files
-  pub serves : (file : List ℕ) → before.files.file name ≡ Some file → IsSizeOf hints.size file → ServesFile hints file name steps before.files now.files served
+  pub serves : (file : List ℕ) → before.files.file name ≡ Some file → IsSizeOf hints.size file → 
+      ServesFile hints (settings_by reading (before.files.settings name)) (new_cache reading.kept) file name steps before.files now.files served
 
 -- the script of the input was served from the file of some values, and no file was opened
 pub record IsDemonstrated (values : List ℤ) (before now : Outside) (answer : Answer) : Type 0 where
@@ -61,7 +62,7 @@ pub record IsDemonstrated (values : List ℤ) (before now : Outside) (answer : A
 abbrev pub IsAnswer : Command → Outside → Outside → Answer → Type 0
 IsAnswer Help before now answer = IsFixed answers.Help before now answer
 IsAnswer Version before now answer = IsFixed answers.Version before now answer
-IsAnswer (Serve s) before now answer = IsServed (serve_hints s) s.name before now answer
+IsAnswer (Serve s) before now answer = IsServed (serve_hints s) s.reading s.name before now answer
 IsAnswer (Demo d) before now answer = IsDemonstrated d.values before now answer
 
 -- ---- the status that a command deserves
@@ -73,7 +74,7 @@ grammar_status (Err refusal) = 4
 -- the status of the file, where the script can be read
 abbrev pub script_status : Result (List Step) ℕ → ℕ → ℕ
 script_status (Err line) file = 3
-script_status (Ok steps) file = if repeats [] steps then 3 else file
+script_status (Ok steps) file = file
 
 abbrev pub input_status : Option (List ℕ) → ℕ → ℕ
 input_status None file = file

@@ -20,11 +20,13 @@ use Rattle.vx_footer.specs.Footers.{FooterContent}
 use Rattle.vx_sched.specs.declared.fault.Fault.{Fault}
 use Rattle.vx_sched.specs.declared.fault.Place.{Place}
 use Rattle.vx_sched.specs.declared.fault.Place.TheVariants.{Size, Range}
-use Rattle.vx_file.specs.declared.reply.Reply.{Reply}
-use Rattle.vx_file.specs.declared.reply.Reply.TheVariants.{Registered, MissingSegment, Ready, Pending, Failed, NotLive, Driven}
-use Rattle.vx_file.specs.declared.span.Span.{Span}
-use Rattle.vx_file.specs.declared.span.SpanOutcome.{SpanOutcome}
-use Rattle.vx_file.specs.declared.span.SpanOutcome.TheVariants.{Good, Bad}
+use Rattle.vx_source.specs.declared.reply.FailCause.{FailCause}
+use Rattle.vx_source.specs.declared.reply.FailCause.TheVariants as cause
+use Rattle.vx_source.specs.declared.reply.Reply.{Reply}
+use Rattle.vx_source.specs.declared.reply.Reply.TheVariants.{Registered, MissingSegment, Ready, Pending, Failed, Dropped, NotLive, Driven}
+use Rattle.vx_source.specs.declared.span.Span.{Span}
+use Rattle.vx_source.specs.declared.span.SpanOutcome.{SpanOutcome}
+use Rattle.vx_source.specs.declared.span.SpanOutcome.TheVariants.{Good, Bad}
 use Rattle.vx_file.specs.declared.served.Served.{Served}
 
 -- a word, and numbers behind it, each after a space
@@ -123,12 +125,17 @@ abbrev pub held_word : Bool → List ℕ
 held_word true = codes " held\n"
 held_word false = codes "\n"
 
+abbrev pub cause_words : FailCause → List ℕ
+cause_words (cause.Fault fault) = fault_words fault
+cause_words cause.Cache = codes "cache"
+
 abbrev pub reply_text : Reply → List ℕ
 reply_text (Registered number held) = words (codes "registered") (number ∷ []) ++ held_word held
 reply_text MissingSegment = codes "missing-segment\n"
 reply_text (Ready buffer) = codes "ready " ++ hex_text buffer.bytes ++ 10 ∷ []
 reply_text Pending = codes "pending\n"
-reply_text (Failed fault) = codes "failed " ++ fault_words fault ++ 10 ∷ []
+reply_text (Failed failure) = codes "failed " ++ cause_words failure ++ 10 ∷ []
+reply_text Dropped = codes "dropped\n"
 reply_text NotLive = codes "not-live\n"
 reply_text (Driven spans) = line (codes "driven") (length spans ∷ []) ++ flat_map span_line spans
 

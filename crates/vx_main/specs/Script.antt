@@ -5,7 +5,7 @@ use Rattle.std.specs.declared.alloc.Global.{Global}
 use Rattle.vx_main.specs.declared.script.ScriptError.{ScriptError}
 use Rattle.vx_main.specs.declared.script.ScriptError.TheVariants.{Line, OutOfMemory}
 use Rattle.vx_file.specs.declared.Step.{Step}
-use Rattle.vx_file.specs.declared.Step.TheVariants.{Register, Poll, Drive}
+use Rattle.vx_file.specs.declared.Step.TheVariants.{Register, Poll, Drop, Drive}
 use Rattle.vx_main.specs.Numbers.{number_of}
 
 abbrev pub register_of : Option ℕ → Option Step
@@ -16,6 +16,10 @@ abbrev pub poll_of : Option ℕ → Option Step
 poll_of None = None
 poll_of (Some number) = Some (Poll number)
 
+abbrev pub drop_of : Option ℕ → Option Step
+drop_of None = None
+drop_of (Some number) = Some (Drop number)
+
 abbrev pub numbered_step : List ℕ → Option Step
 numbered_step [] = None
 numbered_step (letter ∷ []) = None
@@ -23,10 +27,11 @@ numbered_step (letter ∷ space ∷ digits) =
     if space == 32 then
     (if letter == 114 then register_of (number_of digits)
     else if letter == 112 then poll_of (number_of digits)
+    else if letter == 100 then drop_of (number_of digits)
     else None)
     else None
 
--- `r SEGMENT` registers, `p NUMBER` polls, `go` drives
+-- `r SEGMENT` registers, `p NUMBER` polls, `d NUMBER` drops, `go` drives
 unfoldable pub step_of : List ℕ → Option Step
 step_of line = if bytes_eq line (codes "go") then Some Drive else numbered_step line
 

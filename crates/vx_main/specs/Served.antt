@@ -4,7 +4,8 @@ use Rattle.std.specs.Option.{option_map}
 use Rattle.vx_base.specs.Asking.{Log}
 use Rattle.vx_base.specs.Counts.{Rises}
 use Rattle.vx_base.specs.Openers.{OpenerState, Returned, AsksFor}
-use Rattle.vx_base.specs.Readers.{ReaderState}
+use Rattle.vx_base.specs.Caches.{CacheState}
+use Rattle.vx_base.specs.Readers.{ReaderState, ReaderSettings}
 use Rattle.vx_footer.specs.declared.error.OpenError.{OpenError}
 use Rattle.vx_footer.specs.Opening.{vx_grammar}
 use Rattle.vx_sched.specs.declared.fault.Fault.{Fault}
@@ -12,22 +13,21 @@ use Rattle.vx_sched.specs.declared.fault.Place.TheVariants.{Range}
 use Rattle.vx_sched.specs.Outcomes.{size_fault}
 use Rattle.vx_file.specs.declared.step.Step.{Step}
 use Rattle.vx_file.specs.declared.served.Served.{Served}
-use Rattle.vx_file.specs.Fits.{Fits}
 use Rattle.vx_file.specs.Hints.{Hints, IsSizeOf}
 use Rattle.vx_file.specs.Ranges.{tail_ranges, opened}
-use Rattle.vx_file.specs.Serving.{ServedFrom, RefusedFrom, SizeFault, TailFault, asked, world_of, faulty}
-use Rattle.vx_file.specs.Turns.{bad_replies}
+use Rattle.vx_file.specs.Serving.{ServedFrom, RefusedFrom, SizeFault, TailFault, Plays, asked, world_of, covered_by, faulty}
+use Rattle.vx_file.specs.Scripts.{bad_replies, cache_failures}
 use Rattle.vx_main.specs.declared.failure.Failure.{Failure}
 use Rattle.vx_main.specs.declared.failure.Failure.TheVariants as failures
 
 -- ---- by a reader
 
-abbrev pub ReaderCause : Hints → List ℕ → List Step → ReaderState → ReaderState → Result Served Failure → Type 0
-ReaderCause hints file script before now (Ok served) = ServedFrom hints file script before now served
-ReaderCause hints file script before now (Err (failures.Read fault)) = SizeFault hints before now fault ⊎ TailFault hints file before now fault
-ReaderCause hints file script before now (Err (failures.Refused refusal)) = RefusedFrom hints file before now refusal
-ReaderCause hints file script before now (Err failures.OutOfMemory) = Unit {0}
-ReaderCause hints file script before now (Err _) = ⊥
+abbrev pub ReaderCause : Hints → List ℕ → List Step → ReaderState → ReaderState → CacheState → CacheState → Result Served Failure → Type 0
+ReaderCause hints file script before now cache cache_now (Ok served) = ServedFrom hints file script before now cache cache_now served
+ReaderCause hints file script before now cache cache_now (Err (failures.Read fault)) = SizeFault hints before now fault ⊎ TailFault hints file before now fault
+ReaderCause hints file script before now cache cache_now (Err (failures.Refused refusal)) = RefusedFrom hints file before now refusal
+ReaderCause hints file script before now cache cache_now (Err failures.OutOfMemory) = Unit {0}
+ReaderCause hints file script before now cache cache_now (Err _) = ⊥
 
 abbrev pub ReaderFault : ReaderState → ReaderState → Result Served Failure → Type 0
 ReaderFault before now (Ok served) = Unit {0}
@@ -44,13 +44,15 @@ pub record GivesBack (name : List ℕ) (before now : OpenerState) (ranges : Log)
   pub returned : now.returned ≡ option_map (λ all. all ++ record { name = name; log = log } ∷ []) before.returned
   pub asked : (all : List Returned) → before.returned ≡ Some all → log ≡ Some ranges
 
--- A script was served from the file of a name: the footer is that of the grammar, the replies fit the
--- script, one for each step, and the reader had been asked exactly for the ranges of opening and of the
--- drives.
-pub record ServesFile (hints : Hints) (file name : List ℕ) (script : List Step) (before now : OpenerState) (served : Served) : Type 0 where
+-- A script was served from the file of a name by a reader with these settings and this cache: the footer is that of
+-- the grammar, a history answers the script, one reply for each step, and the reader had been asked exactly for the
+-- ranges of opening and of the drives. The cache never failed.
+pub record ServesFile (hints : Hints) (settings : ReaderSettings) (cache : CacheState) (file name : List ℕ) (script : List Step) (before now : OpenerState) (served : Served) : Type 0 where
   pub footer : vx_grammar file hints.dtype ≡ Ok served.footer.content
   pub opening : served.opening ≡ tail_ranges hints file
-  pub fits : Fits (world_of hints file served.footer.content) [] script served.replies
+  pub cache_now : CacheState
+  pub plays : Plays (world_of hints file served.footer.content settings) file (covered_by hints file served.footer.content) script cache cache_now served.replies
+  pub cache_good : cache_failures served.replies ≡ 0
   pub back : GivesBack name before now (asked served)
   pub bad : Rises (bad_replies served.replies) before.read_faults now.read_faults
 
@@ -94,14 +96,14 @@ abbrev pub LeavesOpener : List ℕ → OpenerState → OpenerState → Type 0
 LeavesOpener name before now = AsksNothing before now ⊎ AskedAndBack name before now
 
 -- what serving the file of a name gave has its cause
-abbrev pub FileCause : Hints → List ℕ → List Step → OpenerState → OpenerState → Result Served Failure → Type 0
-FileCause hints name script before now (Ok served) = AsksFor name before now × GaveBack name before now ×
-    ((file : List ℕ) → before.file name ≡ Some file → IsSizeOf hints.size file → ServesFile hints file name script before now served)
-FileCause hints name script before now (Err (failures.Open opened)) = (opened ≡ name) × AsksFor name before now × Rises 1 before.faults now.faults
-FileCause hints name script before now (Err (failures.Read fault)) =
+abbrev pub FileCause : Hints → (ReaderSettings → ReaderSettings) → CacheState → List ℕ → List Step → OpenerState → OpenerState → Result Served Failure → Type 0
+FileCause hints chosen cache name script before now (Ok served) = AsksFor name before now × GaveBack name before now ×
+    ((file : List ℕ) → before.file name ≡ Some file → IsSizeOf hints.size file → ServesFile hints (chosen (before.settings name)) cache file name script before now served)
+FileCause hints chosen cache name script before now (Err (failures.Open opened)) = (opened ≡ name) × AsksFor name before now × Rises 1 before.faults now.faults
+FileCause hints chosen cache name script before now (Err (failures.Read fault)) =
     AsksFor name before now × GaveBack name before now × Rises 1 before.read_faults now.read_faults ×
     ((file : List ℕ) → before.file name ≡ Some file → IsSizeOf hints.size file → LacksSize hints name fault before now ⊎ LacksTail hints file name fault before now)
-FileCause hints name script before now (Err (failures.Refused refusal)) = AsksFor name before now × GaveBack name before now ×
+FileCause hints chosen cache name script before now (Err (failures.Refused refusal)) = AsksFor name before now × GaveBack name before now ×
     ((file : List ℕ) → before.file name ≡ Some file → IsSizeOf hints.size file → RefusesFile hints file name refusal before now)
-FileCause hints name script before now (Err failures.OutOfMemory) = LeavesOpener name before now
-FileCause hints name script before now (Err _) = ⊥
+FileCause hints chosen cache name script before now (Err failures.OutOfMemory) = LeavesOpener name before now
+FileCause hints chosen cache name script before now (Err _) = ⊥

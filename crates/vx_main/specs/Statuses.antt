@@ -42,7 +42,7 @@ when false holds else_holds = else_holds
 abbrev pub Means : ℕ → Command → Outside → Outside → SinkState → SinkState → Type 0
 Means code c before now err err_now =
     when (code == 0) (Prints c before now × (err_now ≡ err))
-    (when (code == 3) (SaysLine c before now err err_now ⊎ Says c before now err err_now failures.Script)
+    (when (code == 3) (SaysLine c before now err err_now)
     (when (code == 4) (SaysRefused c before now err err_now)
     (when (code == 5) (SaysRead c before now err err_now)
     (when (code == 6) (Says c before now err err_now failures.Input)

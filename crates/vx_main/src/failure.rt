@@ -21,8 +21,6 @@ pub enum Failure<'a> {
     Usage,
     /// The first line of the script that is no step, counted from 1.
     Line(u64),
-    /// The script registers a segment twice.
-    Script,
     /// The file fails an opening check.
     Refused(OpenError),
     /// The file could not be read.
@@ -66,7 +64,7 @@ impl<'a> Failure<'a> {
     {
         match self {
             Failure::Usage => 2,
-            Failure::Line(_) | Failure::Script => 3,
+            Failure::Line(_) => 3,
             Failure::Refused(_) => 4,
             Failure::Read(_) => 5,
             Failure::Input => 6,
@@ -86,7 +84,6 @@ impl<'a> Failure<'a> {
                 text.word(err, b"line ");
                 text.number(err, *line)
             }
-            Failure::Script => text.word(err, b"script"),
             Failure::Refused(refusal) => text.word(err, refusal_name(*refusal).as_bytes()),
             Failure::Read(fault) => put_read(fault, text, err),
             Failure::Input => text.word(err, b"input"),

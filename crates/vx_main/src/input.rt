@@ -2,13 +2,11 @@
 ghost use Rattle.std.specs.Prelude.{◌≡◌, ◌+◌, ◌≤◌, ◌<◌, ℕ, List, [], ◌++◌, length, vec_len, take, drop, Some, true, false, IfOk, OnErr};
 ghost use Rattle.vx_base.specs.Counts.{Rises};
 ghost use Rattle.vx_base.specs.Streams.{SameSource};
-ghost use Rattle.vx_file.specs.Serving.{repeats};
 ghost use Rattle.vx_main.specs.Input.{ScriptCause, StepsCause, script_failure};
 ghost use Rattle.vx_main.specs.Streams.{InputCause};
 ghost use Rattle.vx_main.specs.declared.input.InputError.TheVariants as errors;
 
 use crate::failure::Failure;
-use crate::repeats::has_repeats;
 use crate::script::{self, ScriptError};
 use std::alloc::{AllocError, Global};
 use vx_base::Source;
@@ -99,18 +97,14 @@ fn failure_of<'a>(error: ScriptError) -> Failure<'a>
     }
 }
 
-/// The steps of a script, which registers no segment twice.
+/// The steps of a script.
 fn steps_of<'a>(alloc: Global, text: &[u8]) -> Result<Vec<Step>, Failure<'a>>
     ensures { StepsCause text.now result }
 {
-    let steps = match script::read(alloc, text) {
-        Ok(steps) => steps,
-        Err(error) => return Err(failure_of(error)),
-    };
-    if has_repeats(alloc, steps.as_slice())? {
-        return Err(Failure::Script);
+    match script::read(alloc, text) {
+        Ok(steps) => Ok(steps),
+        Err(error) => Err(failure_of(error)),
     }
-    Ok(steps)
 }
 
 /// The script that an input spells.
@@ -119,7 +113,6 @@ pub(crate) fn load_script<'a, I: Source>(
     input: &mut I,
 ) -> Result<Vec<Step>, Failure<'a>>
     ensures cause { ScriptCause (I.state input.old) (I.state input.new) result }
-    ensures distinct { IfOk result (λ steps. repeats [] steps.items ≡ false) }
     ensures steady { (I.state input.old).never_fails ≡ true → (I.state input.new).faults ≡ (I.state input.old).faults }
     ensures same { SameSource (I.state input.old) (I.state input.new) }
 {

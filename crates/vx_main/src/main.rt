@@ -17,10 +17,10 @@ mod numbers;
 mod options;
 mod print;
 mod printable;
+mod reading;
 #[cfg(test)]
 mod real_tests;
 mod refusal;
-mod repeats;
 mod run;
 mod script;
 #[cfg(test)]

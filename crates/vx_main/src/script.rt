@@ -2,7 +2,7 @@
 
 ghost use Rattle.std.specs.Prelude.{◌≡◌, ◌+◌, ◌≤◌, length, drop};
 ghost use Rattle.vx_main.specs.Numbers.{number_of};
-ghost use Rattle.vx_main.specs.Script.{register_of, poll_of, numbered_step, step_of, lines_of, line_length, script_of, Reads};
+ghost use Rattle.vx_main.specs.Script.{register_of, poll_of, drop_of, numbered_step, step_of, lines_of, line_length, script_of, Reads};
 
 use crate::numbers::number;
 use std::alloc::{AllocError, AllocFailed, Global};
@@ -43,6 +43,12 @@ fn poll(number: Option<u64>) -> Option<Step>
     Some(Step::Poll(number?))
 }
 
+fn end(number: Option<u64>) -> Option<Step>
+    ensures { result ≡ drop_of number }
+{
+    Some(Step::Drop(number?))
+}
+
 /// The step that a letter and a number spell.
 fn numbered(line: &[u8]) -> Option<Step>
     ensures { result ≡ numbered_step line.now }
@@ -56,6 +62,7 @@ fn numbered(line: &[u8]) -> Option<Step>
     match *letter {
         b'r' => register(number(digits)),
         b'p' => poll(number(digits)),
+        b'd' => end(number(digits)),
         _ => None,
     }
 }

@@ -119,7 +119,7 @@ gains-one id buffer before now result never h = at h.logged
 
 -- ---- the segments that a block puts
 
-ids-append : (a b : Segments) → map (λ (e : SegmentId × Buffer). e.0.0) (a ++ b) ≡ map (λ (e : SegmentId × Buffer). e.0.0) a ++ map (λ (e : SegmentId × Buffer). e.0.0) b
+pub ids-append : (a b : Segments) → map (λ (e : SegmentId × Buffer). e.0.0) (a ++ b) ≡ map (λ (e : SegmentId × Buffer). e.0.0) a ++ map (λ (e : SegmentId × Buffer). e.0.0) b
 ids-append [] b = refl
 ids-append (p ∷ a) b = ap (λ l. p.0.0 ∷ l) (ids-append a b)
 

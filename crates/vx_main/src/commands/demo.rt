@@ -1,7 +1,6 @@
 //! `demo V ..`: serves a file of the values, which it writes to memory, by the script on the input.
 ghost use Rattle.std.specs.Prelude.{◌≡◌, ◌≤◌, ◌∷◌, [], length, true, false, is_some, map, string_bytes, unwrap_or, IfOk};
 ghost use Rattle.vx_base.specs.Openers.{OpenerState};
-ghost use Rattle.vx_file.specs.Serving.{repeats};
 ghost use Rattle.vx_main.specs.Command.{all_values, demo_of, Parses};
 ghost use Rattle.vx_main.specs.Demo.{IsWritten, DemoCause};
 ghost use Rattle.vx_main.specs.Outside.{Keeps};
@@ -100,8 +99,7 @@ fn written_file<'a>(alloc: Global, values: &[i32]) -> Result<Vec<u8>, Failure<'a
 
 /// Serves a script from the file of some values.
 fn demonstrate<'a>(alloc: Global, values: &[i32], script: &[Step]) -> Result<Served, Failure<'a>>
-    requires few { length values.now ≤ MOST_VALUES }
-    requires distinct { repeats [] script.now ≡ false }
+    requires { length values.now ≤ MOST_VALUES }
     ensures { DemoCause values.now script.now result }
 {
     let bytes = written_file(alloc, values)?;
@@ -109,8 +107,10 @@ fn demonstrate<'a>(alloc: Global, values: &[i32], script: &[Step]) -> Result<Ser
     match serve_in_memory(alloc, file, script) {
         Ok(served) => Ok(served),
         Err(ServeError::OutOfMemory) => Err(Failure::OutOfMemory),
-        // The file is in the grammar, and no read of it fails.
-        Err(ServeError::Open(_)) | Err(ServeError::Fault(_)) => unreachable!(),
+        // The file is in the grammar, no read of it fails, and there is no cache.
+        Err(ServeError::Open(_)) | Err(ServeError::Fault(_)) | Err(ServeError::CacheFault) => {
+            unreachable!()
+        }
     }
 }
 

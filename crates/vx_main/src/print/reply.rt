@@ -1,15 +1,14 @@
 //! The lines of replies.
 ghost use Rattle.std.specs.Prelude.{◌∷◌, [], ◌++◌, length, codes};
 ghost use Rattle.std.specs.List.{flat_map};
-ghost use Rattle.vx_main.specs.Render.{words, line, hex_text, fault_words, outcome_word, span_line, held_word, reply_text};
+ghost use Rattle.vx_main.specs.Render.{words, line, hex_text, cause_words, outcome_word, span_line, held_word, reply_text};
 ghost use Rattle.vx_main.specs.Text.{Adds};
 
 use crate::print::fault::put_fault;
 use crate::print::words::{put_hex, put_line, put_numbers, put_words};
 use crate::text::TextOut;
 use vx_base::Sink;
-use vx_file::{Reply, Span, SpanOutcome};
-use vx_sched::Fault;
+use vx_file::{FailCause, Reply, Span, SpanOutcome};
 
 fn put_outcome<S: Sink>(outcome: &SpanOutcome, text: &mut TextOut, out: &mut S)
     ensures { Adds (outcome_word outcome.now) text.old (S.state out.old) text.new (S.state out.new) }
@@ -65,11 +64,20 @@ fn put_ready<S: Sink>(bytes: &[u8], text: &mut TextOut, out: &mut S)
     text.end_line(out);
 }
 
-fn put_failed<S: Sink>(fault: &Fault, text: &mut TextOut, out: &mut S)
-    ensures { Adds (codes "failed " ++ fault_words fault.now ++ 10 ∷ []) text.old (S.state out.old) text.new (S.state out.new) }
+fn put_cause<S: Sink>(cause: &FailCause, text: &mut TextOut, out: &mut S)
+    ensures { Adds (cause_words cause.now) text.old (S.state out.old) text.new (S.state out.new) }
+{
+    match cause {
+        FailCause::Fault(fault) => put_fault(fault, text, out),
+        FailCause::Cache => text.word(out, b"cache"),
+    }
+}
+
+fn put_failed<S: Sink>(cause: &FailCause, text: &mut TextOut, out: &mut S)
+    ensures { Adds (codes "failed " ++ cause_words cause.now ++ 10 ∷ []) text.old (S.state out.old) text.new (S.state out.new) }
 {
     text.word(out, b"failed ");
-    put_fault(fault, text, out);
+    put_cause(cause, text, out);
     text.end_line(out);
 }
 
@@ -89,7 +97,8 @@ pub(crate) fn put_reply<S: Sink>(reply: &Reply, text: &mut TextOut, out: &mut S)
         Reply::MissingSegment => text.word(out, b"missing-segment\n"),
         Reply::Ready(buffer) => put_ready(buffer.as_slice(), text, out),
         Reply::Pending => text.word(out, b"pending\n"),
-        Reply::Failed(fault) => put_failed(fault, text, out),
+        Reply::Failed(cause) => put_failed(cause, text, out),
+        Reply::Dropped => text.word(out, b"dropped\n"),
         Reply::NotLive => text.word(out, b"not-live\n"),
         Reply::Driven(spans) => put_driven(spans.as_slice(), text, out),
     }

@@ -1,5 +1,6 @@
-use Rattle.std.proofs.Common.{◌≡◌, subst, sym}
+use Rattle.std.proofs.Common.{◌≡◌, subst, sym, refl, arith}
 use Rattle.std.specs.Prelude.{IsOk}
+use Rattle.vx_base.specs.Caches.{nothing_held}
 use Rattle.vx_footer.specs.Opening.{vx_grammar}
 use Rattle.vx_file.specs.Hints.{Hints, no_hints, IsSizeOf}
 use Rattle.vx_file.specs.Serving.{HasCause}
@@ -8,7 +9,7 @@ use Rattle.vx_file.proofs.memory.serve_unknown.Goals as goal
 pub returns-clause-cause : goal.returns-clause-cause
 returns-clause-cause g c = λ file told.
     let sized = subst (λ (h : Hints). IsSizeOf h.size file) (sym c.new.ensures) tt in
-    subst (λ h. HasCause h file c.args.script.now (g.R.Reader.state c.args.reader.now) (g.R.Reader.state c.serve.new.reader) c.serve.result) c.new.ensures (c.serve.ensures.cause file told sized)
+    subst (λ h. HasCause h file c.args.script.now (g.R.Reader.state c.args.reader.now) (g.R.Reader.state c.serve.new.reader) nothing_held nothing_held c.serve.result) c.new.ensures (c.serve.ensures.cause file told sized)
 
 pub returns-clause-steady : goal.returns-clause-steady
 returns-clause-steady g c = λ file never told.
@@ -18,3 +19,4 @@ pub returns-clause-served : goal.returns-clause-served
 returns-clause-served g c = λ file told grammar still.
     let is = sym c.new.ensures in
     c.serve.ensures.served file told (subst (λ (h : Hints). IsSizeOf h.size file) is tt) (subst (λ (h : Hints). IsOk (vx_grammar file h.dtype)) is grammar) still
+    (record { same = refl; below = omega arith })

@@ -1,16 +1,22 @@
-use Rattle.std.proofs.Common.{◌≡◌, [], drop, Some, true}
+use Rattle.std.proofs.Common.{◌≡◌, ◌+◌, ◌≤◌, ℕ, List, [], drop, length, Some, true}
+use Rattle.vx_base.specs.Caches.{SameCache}
 use Rattle.vx_base.specs.Readers.{SameReader}
-use Rattle.vx_file.specs.Fits.{World, IsInFile}
-use Rattle.vx_file.specs.Stands.{Stands}
-use Rattle.vx_file.specs.Turns.{KeepsTail, Answering}
+use Rattle.vx_source.specs.Fits.{World}
+use Rattle.vx_source.specs.Stands.{Stands, EndsWithin}
+use Rattle.vx_file.specs.Steps.{Answering}
 use Rattle.vx_file.proofs.steps.answer_steps.Given as goal
 
 abbrev pub invariant-loop-step : goal.invariant-loop-step
 invariant-loop-step g l =
     let state = g.R.Reader.state in
+    let cache = g.C.SegmentCache.state in
     record {
-      answering : (w : World) → (state l.fn.reader).bytes ≡ Some w.file → w.table ≡ l.segments → Stands w [] l.fn.session → Answering w l.script (drop l.step-index l.script) (state l.fn.reader) (state l.reader) l.replies l.session;
-      steady : (w : World) → (state l.fn.reader).never_fails ≡ true → (state l.fn.reader).bytes ≡ Some w.file → w.table ≡ l.segments → IsInFile w → Stands w [] l.fn.session → (state l.reader).faults ≡ (state l.fn.reader).faults;
-      tail : KeepsTail l.fn.session l.session;
+      answering : (w : World) → Stands w [] l.fn.session →
+          Answering w l.script (drop l.step-index l.script) (state l.fn.reader) (state l.reader) l.fn.session (cache l.fn.cache) (cache l.cache) l.replies l.session;
+      steady : (w : World) (file : List ℕ) → (state l.fn.reader).never_fails ≡ true → (state l.fn.reader).bytes ≡ Some file → Stands w [] l.fn.session →
+          EndsWithin (length file) w.table → (state l.reader).faults ≡ (state l.fn.reader).faults;
+      settings : l.session.idle ≡ l.fn.session.idle;
+      room : length l.session.requests ≤ length l.fn.session.requests + l.step-index;
       same : SameReader (state l.fn.reader) (state l.reader);
+      same_cache : SameCache (cache l.fn.cache) (cache l.cache);
     }
