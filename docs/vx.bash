@@ -7,7 +7,7 @@ _vx() {
     elif [ "$COMP_CWORD" -eq 2 ] && [ "${COMP_WORDS[1]}" = serve ]; then
         mapfile -t COMPREPLY < <(compgen -f -- "$word")
     elif [ "${COMP_WORDS[1]}" = serve ] && [[ ${COMP_WORDS[COMP_CWORD - 1]} != --* ]]; then
-        mapfile -t COMPREPLY < <(compgen -W '--size --initial' -- "$word")
+        mapfile -t COMPREPLY < <(compgen -W '--size --initial --distance --max --reads --cache' -- "$word")
     fi
 }
 complete -o filenames -F _vx vx ./vx

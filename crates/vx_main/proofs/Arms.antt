@@ -26,6 +26,7 @@ use Rattle.vx_main.specs.Failures.{HasCause, LeavesFiles}
 use Rattle.vx_main.specs.Input.{ReadsScript, ScriptCause, BadLine, BadLength}
 use Rattle.vx_main.specs.Outputs.{IsTold, IsTrueSize, wanted_status, input_status, script_status, file_status, grammar_status}
 use Rattle.vx_main.specs.Outside.{outside}
+use Rattle.vx_main.specs.Reading.{settings_by, new_cache}
 use Rattle.vx_main.specs.Runs.{Gathers}
 use Rattle.vx_main.specs.Script.{script_of}
 use Rattle.vx_main.specs.Served.{FileCause, ServesFile, RefusesFile}
@@ -91,7 +92,7 @@ refused-status hints refusal None told sized h = absurd cc
 refused-status hints refusal (Some file) told sized h = ap grammar_status (h file refl sized)
 
 pub serve-fails : (s : serve.Serve) (steps : List Step) (source source_now : SourceState) (files files_now : OpenerState) (failure : Failure) → ReadsScript source source_now steps
-    → FileCause (serve_hints s) s.name steps files files_now (Err failure) → Gathers (commands.Serve s) source source_now files files_now (Err failure)
+    → FileCause (serve_hints s) (settings_by s.reading) (new_cache s.reading.kept) s.name steps files files_now (Err failure) → Gathers (commands.Serve s) source source_now files files_now (Err failure)
 serve-fails s steps source source_now files files_now failures.Usage script h = absurd h
 serve-fails s steps source source_now files files_now (failures.Line line) script h = absurd h
 serve-fails s steps source source_now files files_now (failures.Refused refusal) script h = record {
@@ -130,7 +131,7 @@ served-status hints None served told sized h = absurd cc
 served-status hints (Some file) served told sized h = ap grammar_status (h file refl sized)
 
 pub serve-answers : (s : serve.Serve) (steps : List Step) (source source_now : SourceState) (files files_now : OpenerState) (served : Served) → ReadsScript source source_now steps
-    → FileCause (serve_hints s) s.name steps files files_now (Ok served) → Gathers (commands.Serve s) source source_now files files_now (Ok (answers.Served served))
+    → FileCause (serve_hints s) (settings_by s.reading) (new_cache s.reading.kept) s.name steps files files_now (Ok served) → Gathers (commands.Serve s) source source_now files files_now (Ok (answers.Served served))
 serve-answers s steps source source_now files files_now served script h = record {
   each = λ out. record {
     is = record { served = served; is = refl; steps = steps; script = script; asked = h.0; back = h.1; serves = h.2 };
@@ -144,7 +145,7 @@ pub serve-stopped : (s : serve.Serve) (source source_now : SourceState) (files :
 serve-stopped s source source_now files = record { each = λ out. record { files = inl (record { asked = refl; returned = refl }); out = inl refl } }
 
 -- memory for the text of the type is wanting
-pub serve-unprinted : (s : serve.Serve) (steps : List Step) (source source_now : SourceState) (files files_now : OpenerState) (served : Served) → FileCause (serve_hints s) s.name steps files files_now (Ok served)
+pub serve-unprinted : (s : serve.Serve) (steps : List Step) (source source_now : SourceState) (files files_now : OpenerState) (served : Served) → FileCause (serve_hints s) (settings_by s.reading) (new_cache s.reading.kept) s.name steps files files_now (Ok served)
     → Gathers (commands.Serve s) source source_now files files_now (Err failures.OutOfMemory)
 serve-unprinted s steps source source_now files files_now served h = record { each = λ out. record { files = inr (record { asked = h.0; back = inl h.1 }); out = inl refl } }
 

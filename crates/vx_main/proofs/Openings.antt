@@ -6,17 +6,18 @@ use Rattle.std.specs.Option.{option_map}
 use Rattle.vx_base.specs.Asking.{Log}
 use Rattle.vx_base.specs.Counts.{Rises, last_count}
 use Rattle.vx_base.specs.Openers.{OpenerState, Returned, AsksFor}
-use Rattle.vx_base.specs.Readers.{ReaderState}
+use Rattle.vx_base.specs.Caches.{CacheState}
+use Rattle.vx_base.specs.Readers.{ReaderState, ReaderSettings, settings_of}
 use Rattle.vx_base.specs.Streams.{SourceState}
 use Rattle.vx_sched.specs.declared.fault.Fault.{Fault}
 use Rattle.vx_file.specs.declared.step.Step.{Step}
 use Rattle.vx_file.specs.declared.served.Served.{Served}
 use Rattle.vx_file.specs.Hints.{Hints, IsSizeOf}
-use Rattle.vx_file.specs.Logs.{Grew}
+use Rattle.vx_source.specs.Asks.{Grew}
 use Rattle.vx_footer.specs.declared.error.OpenError.{OpenError}
 use Rattle.vx_file.specs.Ranges.{opened as opened_ranges}
-use Rattle.vx_file.specs.Serving.{ServedFrom, asked, faulty, SizeFault, TailFault, RefusedFrom, repeats}
-use Rattle.vx_file.specs.Turns.{bad_replies}
+use Rattle.vx_file.specs.Serving.{ServedFrom, Plays, world_of, covered_by, asked, faulty, SizeFault, TailFault, RefusedFrom}
+use Rattle.vx_file.specs.Scripts.{bad_replies, cache_failures}
 use Rattle.vx_main.specs.declared.failure.Failure.{Failure}
 use Rattle.vx_main.specs.declared.failure.Failure.TheVariants as failures
 use Rattle.vx_main.specs.Input.{ReadsScript, ScriptCause, StepsCause}
@@ -36,8 +37,9 @@ script-cause before now text (Err failures.Output) read h = absurd h
 script-cause before now text (Err (failures.Open name)) read h = absurd h
 script-cause before now text (Err failures.InputTooLong) read h = absurd h
 
--- a reader was opened by a name and taken back
-pub record Lent (name : List ℕ) (before now : OpenerState) (opened served : ReaderState) : Type 0 where
+-- a reader was opened by a name, with these settings, and taken back
+pub record Lent (name : List ℕ) (settings : ReaderSettings) (before now : OpenerState) (opened served : ReaderState) : Type 0 where
+  pub has : settings_of opened ≡ settings
   pub told : (b : List ℕ) → before.file name ≡ Some b → opened.bytes ≡ Some b
   pub fresh : (all : List Returned) → before.returned ≡ Some all → opened.log ≡ Some []
   pub faultless : opened.faults ≡ 0
@@ -52,50 +54,56 @@ rises-through by before now opened served none counted later h = record { later 
 fresh-log : (gained : Log) (before now : Option Log) → before ≡ Some [] → Grew gained before now → now ≡ Some gained
 fresh-log gained before now fresh h = h ∙ ap (λ log. option_map (λ l. l ++ gained) log) fresh
 
-gave-back : (name : List ℕ) (before now : OpenerState) (opened served : ReaderState) → Lent name before now opened served → GaveBack name before now
-gave-back name before now opened served lent = record { log = served.log; returned = lent.returned }
+gave-back : (name : List ℕ) (settings : ReaderSettings) (before now : OpenerState) (opened served : ReaderState) → Lent name settings before now opened served → GaveBack name before now
+gave-back name settings before now opened served lent = record { log = served.log; returned = lent.returned }
 
-gives-back : (name : List ℕ) (before now : OpenerState) (opened served : ReaderState) (gained : Log) → Lent name before now opened served → Grew gained opened.log served.log → GivesBack name before now gained
-gives-back name before now opened served gained lent grew = record {
+gives-back : (name : List ℕ) (settings : ReaderSettings) (before now : OpenerState) (opened served : ReaderState) (gained : Log) → Lent name settings before now opened served → Grew gained opened.log served.log → GivesBack name before now gained
+gives-back name settings before now opened served gained lent grew = record {
   log = served.log;
   returned = lent.returned;
   asked = λ all told. fresh-log gained opened.log served.log (lent.fresh all told) grew;
 }
 
-serves-file : (hints : Hints) (file name : List ℕ) (script : List Step) (before now : OpenerState) (opened served : ReaderState) (s : Served) → Lent name before now opened served → ServedFrom hints file script opened served s
-    → ServesFile hints file name script before now s
-serves-file hints file name script before now opened served s lent h = record {
+none-failed : (by before now : ℕ) → before ≡ 0 → now ≡ 0 → Rises by before now → by ≡ 0
+none-failed by before now first last h = let r = h.risen in omega (arith, first, last, r)
+
+serves-file : (hints : Hints) (cache cache_now : CacheState) (file name : List ℕ) (script : List Step) (settings : ReaderSettings) (before now : OpenerState) (opened served : ReaderState) (s : Served) → Lent name settings before now opened served
+    → cache.faults ≡ 0 → cache_now.faults ≡ 0 → ServedFrom hints file script opened served cache cache_now s → ServesFile hints settings cache file name script before now s
+serves-file hints cache cache_now file name script settings before now opened served s lent first last h = record {
   footer = h.footer;
   opening = h.opening;
-  fits = h.fits;
-  back = gives-back name before now opened served (asked s) lent h.asked;
+  cache_now = cache_now;
+  plays = subst (λ r. Plays (world_of hints file s.footer.content r) file (covered_by hints file s.footer.content) script cache cache_now s.replies) lent.has h.plays;
+  cache_good = none-failed (cache_failures s.replies) cache.faults cache_now.faults first last h.plays.failed;
+  back = gives-back name settings before now opened served (asked s) lent h.asked;
   bad = rises-through (bad_replies s.replies) before.read_faults now.read_faults opened.faults served.faults lent.faultless lent.counted lent.never_falls h.bad;
 }
 
-lacks : (hints : Hints) (file name : List ℕ) (fault : Fault) (before now : OpenerState) (opened served : ReaderState) → Lent name before now opened served → SizeFault hints opened served fault ⊎ TailFault hints file opened served fault
+lacks : (hints : Hints) (file name : List ℕ) (fault : Fault) (settings : ReaderSettings) (before now : OpenerState) (opened served : ReaderState) → Lent name settings before now opened served → SizeFault hints opened served fault ⊎ TailFault hints file opened served fault
     → LacksSize hints name fault before now ⊎ LacksTail hints file name fault before now
-lacks hints file name fault before now opened served lent (inl h) = inl (record { unknown = h.unknown; is = h.is; back = gives-back name before now opened served [] lent h.asked })
-lacks hints file name fault before now opened served lent (inr h) = inr (record {
+lacks hints file name fault settings before now opened served lent (inl h) = inl (record { unknown = h.unknown; is = h.is; back = gives-back name settings before now opened served [] lent h.asked })
+lacks hints file name fault settings before now opened served lent (inr h) = inr (record {
   front = h.front;
   range = h.range;
   rest = h.rest;
   ranges = h.ranges;
   place = h.place;
-  back = gives-back name before now opened served (opened_ranges h.front ++ faulty h.range fault ∷ []) lent h.asked;
+  back = gives-back name settings before now opened served (opened_ranges h.front ++ faulty h.range fault ∷ []) lent h.asked;
 })
 
-refuses : (hints : Hints) (file name : List ℕ) (refusal : OpenError) (before now : OpenerState) (opened served : ReaderState) → Lent name before now opened served → RefusedFrom hints file opened served refusal → RefusesFile hints file name refusal before now
-refuses hints file name refusal before now opened served lent h = record { fails = h.fails; back = gives-back name before now opened served _ lent h.asked }
+refuses : (hints : Hints) (file name : List ℕ) (refusal : OpenError) (settings : ReaderSettings) (before now : OpenerState) (opened served : ReaderState) → Lent name settings before now opened served → RefusedFrom hints file opened served refusal → RefusesFile hints file name refusal before now
+refuses hints file name refusal settings before now opened served lent h = record { fails = h.fails; back = gives-back name settings before now opened served _ lent h.asked }
 
-pub file-cause : (hints : Hints) (name : List ℕ) (script : List Step) (before now : OpenerState) (opened served : ReaderState) (answer : Result Served Failure) → Lent name before now opened served
-    → ((file : List ℕ) → opened.bytes ≡ Some file → IsSizeOf hints.size file → ReaderCause hints file script opened served answer) → ReaderFault opened served answer → FileCause hints name script before now answer
-file-cause hints name script before now opened served (Ok s) lent cause read = (lent.asked, gave-back name before now opened served lent, λ file told sized. serves-file hints file name script before now opened served s lent (cause file (lent.told file told) sized))
-file-cause hints name script before now opened served (Err (failures.Read fault)) lent cause read = (lent.asked, gave-back name before now opened served lent, rises-through 1 before.read_faults now.read_faults opened.faults served.faults lent.faultless lent.counted lent.never_falls read, λ file told sized. lacks hints file name fault before now opened served lent (cause file (lent.told file told) sized))
-file-cause hints name script before now opened served (Err (failures.Refused refusal)) lent cause read = (lent.asked, gave-back name before now opened served lent, λ file told sized. refuses hints file name refusal before now opened served lent (cause file (lent.told file told) sized))
-file-cause hints name script before now opened served (Err failures.OutOfMemory) lent cause read = inr (record { asked = lent.asked; back = inl (gave-back name before now opened served lent) })
-file-cause hints name script before now opened served (Err (failures.Line line)) lent cause read = absurd read
-file-cause hints name script before now opened served (Err failures.Usage) lent cause read = absurd read
-file-cause hints name script before now opened served (Err failures.Input) lent cause read = absurd read
-file-cause hints name script before now opened served (Err failures.Output) lent cause read = absurd read
-file-cause hints name script before now opened served (Err (failures.Open opened_name)) lent cause read = absurd read
-file-cause hints name script before now opened served (Err failures.InputTooLong) lent cause read = absurd read
+pub file-cause : (hints : Hints) (chosen : ReaderSettings → ReaderSettings) (cache cache_now : CacheState) (name : List ℕ) (script : List Step) (before now : OpenerState) (opened served : ReaderState) (answer : Result Served Failure)
+    → Lent name (chosen (before.settings name)) before now opened served → cache.faults ≡ 0 → cache_now.faults ≡ 0
+    → ((file : List ℕ) → opened.bytes ≡ Some file → IsSizeOf hints.size file → ReaderCause hints file script opened served cache cache_now answer) → ReaderFault opened served answer → FileCause hints chosen cache name script before now answer
+file-cause hints chosen cache cache_now name script before now opened served (Ok s) lent first last cause read = (lent.asked, gave-back name (chosen (before.settings name)) before now opened served lent, λ file told sized. serves-file hints cache cache_now file name script (chosen (before.settings name)) before now opened served s lent first last (cause file (lent.told file told) sized))
+file-cause hints chosen cache cache_now name script before now opened served (Err (failures.Read fault)) lent first last cause read = (lent.asked, gave-back name (chosen (before.settings name)) before now opened served lent, rises-through 1 before.read_faults now.read_faults opened.faults served.faults lent.faultless lent.counted lent.never_falls read, λ file told sized. lacks hints file name fault (chosen (before.settings name)) before now opened served lent (cause file (lent.told file told) sized))
+file-cause hints chosen cache cache_now name script before now opened served (Err (failures.Refused refusal)) lent first last cause read = (lent.asked, gave-back name (chosen (before.settings name)) before now opened served lent, λ file told sized. refuses hints file name refusal (chosen (before.settings name)) before now opened served lent (cause file (lent.told file told) sized))
+file-cause hints chosen cache cache_now name script before now opened served (Err failures.OutOfMemory) lent first last cause read = inr (record { asked = lent.asked; back = inl (gave-back name (chosen (before.settings name)) before now opened served lent) })
+file-cause hints chosen cache cache_now name script before now opened served (Err (failures.Line line)) lent first last cause read = absurd read
+file-cause hints chosen cache cache_now name script before now opened served (Err failures.Usage) lent first last cause read = absurd read
+file-cause hints chosen cache cache_now name script before now opened served (Err failures.Input) lent first last cause read = absurd read
+file-cause hints chosen cache cache_now name script before now opened served (Err failures.Output) lent first last cause read = absurd read
+file-cause hints chosen cache cache_now name script before now opened served (Err (failures.Open opened_name)) lent first last cause read = absurd read
+file-cause hints chosen cache cache_now name script before now opened served (Err failures.InputTooLong) lent first last cause read = absurd read

@@ -22,6 +22,15 @@ size_help = codes "      --size N      the file has N bytes: its size is not ask
 abbrev pub initial_help : List ℕ
 initial_help = codes "      --initial N   the first read asks for the last N bytes, 65535 at least\n"
 
+abbrev pub distance_help : List ℕ
+distance_help = codes "      --distance D  reads at most D bytes apart are merged, and --max M: into one\n                    of at most M bytes\n"
+
+abbrev pub reads_help : List ℕ
+reads_help = codes "      --reads K     one call asks for at most K ranges, 1 to 1024\n"
+
+abbrev pub cache_help : List ℕ
+cache_help = codes "      --cache N     the N segments used last are kept, 1 to 65536\n"
+
 abbrev pub demo_help : List ℕ
 demo_help = codes "  demo V ..     the same with a file of the values V, 1 to 8192 numbers of 32\n                bits, which it writes to memory\n"
 
@@ -40,6 +49,9 @@ register_help = codes "  r SEGMENT     registers a request for a segment; reques
 abbrev pub poll_help : List ℕ
 poll_help = codes "  p NUMBER      polls the request of a number\n"
 
+abbrev pub drop_help : List ℕ
+drop_help = codes "  d NUMBER      drops the request of a number\n"
+
 abbrev pub drive_help : List ℕ
 drive_help = codes "  go            reads for each request that was polled and waits\n\n"
 
@@ -50,15 +62,15 @@ abbrev pub statuses_2_help : List ℕ
 statuses_2_help = codes "  0  all was printed                    6  the input could not be read\n  2  the arguments are no command       7  the output could not be written\n"
 
 abbrev pub statuses_3_help : List ℕ
-statuses_3_help = codes "  3  a line of the script is no step,   8  the file could not be opened\n     or a segment is registered twice   9  the input is too long\n"
+statuses_3_help = codes "  3  a line of the script is no step    8  the file could not be opened\n  4  the file is refused                9  the input is too long\n"
 
 abbrev pub statuses_4_help : List ℕ
-statuses_4_help = codes "  4  the file is refused               70  out of memory\n  5  the file could not be read\n\n"
+statuses_4_help = codes "  5  the file could not be read        70  out of memory\n\n"
 
 abbrev pub example_help : List ℕ
 example_help = codes "example\n  printf 'r 0\\np 0\\n' | vx demo 1 2 3 4\n"
 
 abbrev pub help_text : List ℕ
 help_text =
-    what_help ++ usage_help ++ commands_help ++ serve_help ++ serve_more_help ++ size_help ++ initial_help ++ demo_help ++ texts_help ++ options_help
-    ++ script_help ++ register_help ++ poll_help ++ drive_help ++ statuses_help ++ statuses_2_help ++ statuses_3_help ++ statuses_4_help ++ example_help
+    what_help ++ usage_help ++ commands_help ++ serve_help ++ serve_more_help ++ size_help ++ initial_help ++ distance_help ++ reads_help ++ cache_help ++ demo_help ++ texts_help ++ options_help
+    ++ script_help ++ register_help ++ poll_help ++ drop_help ++ drive_help ++ statuses_help ++ statuses_2_help ++ statuses_3_help ++ statuses_4_help ++ example_help

@@ -46,7 +46,7 @@ pub record IsServed (hints : Hints) (reading : ReadingValue) (name : List ℕ) (
   pub script : ReadsScript before.source now.source steps
   pub asked : AsksFor name before.files now.files
   pub back : GaveBack name before.files now.files
-  pub serves : (file : List ℕ) → before.files.file name ≡ Some file → IsSizeOf hints.size file → 
+  pub serves : (file : List ℕ) → before.files.file name ≡ Some file → IsSizeOf hints.size file →
       ServesFile hints (settings_by reading (before.files.settings name)) (new_cache reading.kept) file name steps before.files now.files served
 
 -- the script of the input was served from the file of some values, and no file was opened

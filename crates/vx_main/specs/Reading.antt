@@ -1,9 +1,8 @@
 -- How segments are read, as the words of a command say.
-use Rattle.std.specs.Prelude.{◌≡◌, ℕ, min, nat_le, Bool, true, false, ◌&&◌, ◌||◌, not, if◌then◌else◌, [], Option, Some, None, is_some}
-use Rattle.lru.specs.LruCache.{lru_cache}
+use Rattle.std.specs.Prelude.{◌≡◌, ℕ, min, nat_le, Bool, true, false, ◌&&◌, ◌||◌, not, if◌then◌else◌, Option, Some, None, is_some}
 use Rattle.vx_base.specs.Caches.{CacheState, nothing_held}
 use Rattle.vx_base.specs.Readers.{ReaderSettings}
-use Rattle.vx_source.specs.Keeping.{lru_state}
+use Rattle.vx_source.specs.Keeping.{lru_state, new_lru}
 use Rattle.vx_main.specs.declared.reading.TheConstants.{MOST_READS, MOST_KEPT}
 
 -- the distance and the greatest read, the most ranges of one call, and how many segments a cache keeps, where said
@@ -45,4 +44,4 @@ settings_by r own = settings_with r.distance r own
 -- a cache that keeps so many segments, if any, and has none yet
 abbrev pub new_cache : Option ℕ → CacheState
 new_cache None = nothing_held
-new_cache (Some n) = lru_state (record { kept = lru_cache [] n; puts = []; lost = 0 })
+new_cache (Some n) = lru_state (new_lru n)

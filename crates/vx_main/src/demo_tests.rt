@@ -120,8 +120,6 @@ fn bad_scripts_and_failing_outputs_are_reported(rt: HostRuntime) -> Result<(), F
     let words = words_of(alloc, &["1"])?;
     let left = demo(alloc, words.as_slice(), "go\nx", Vec::new(alloc))?;
     assert!(rt; left.is(3, "", "vx: line 2\n"));
-    let left = demo(alloc, words.as_slice(), "r 0\nr 0", Vec::new(alloc))?;
-    assert!(rt; left.is(3, "", "vx: script\n"));
     let left = demo(alloc, words.as_slice(), "", vec![in alloc; 0]?)?;
     assert!(rt; left.is(7, "", "vx: output\n"));
     Ok(())

@@ -4,7 +4,7 @@ use crate::tests::four;
 use std::alloc::Global;
 use std::fs;
 use std::test::Fail;
-use vx_base::{FileOpener, MemSink, Opener, Sink, write_flushed};
+use vx_base::{FileOpener, MemSink, NoCache, Opener, Sink, write_flushed};
 use vx_data::VortexSession;
 use vx_file::{Reply, ServeOptions, Step, serve};
 
@@ -15,7 +15,8 @@ fn print_first<S: Sink>(rt: &HostRuntime, path: &str, out: &mut S) -> Result<(),
     let mut reader = files.open_named(alloc, path).ok().ok_or("not opened")?;
     let script = [Step::Register(0), Step::Poll(0)];
     let options = ServeOptions::new(VortexSession::new(alloc)?);
-    let served = serve(alloc, options, &mut reader, &script)
+    let mut cache = NoCache;
+    let served = serve(alloc, options, &mut cache, &mut reader, &script)
         .ok()
         .ok_or("not served")?;
     files.take_back(alloc, path, reader)?;

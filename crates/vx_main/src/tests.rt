@@ -106,7 +106,7 @@ fn serve_four(alloc: Global, script: &str, file: Vec<u8>, failing: Failing) -> R
 #[test]
 fn words_that_are_no_command_are_usage(rt: HostRuntime) -> Result<(), Fail> {
     let alloc = rt.alloc();
-    let lines: [&[&str]; 11] = [
+    let lines: [&[&str]; 16] = [
         &[],
         &["serve"],
         &["serve", "-x"],
@@ -115,6 +115,11 @@ fn words_that_are_no_command_are_usage(rt: HostRuntime) -> Result<(), Fail> {
         &["serve", "four", "--size", "0449"],
         &["serve", "four", "--size", "449", "--size", "449"],
         &["serve", "four", "--most", "449"],
+        &["serve", "four", "--max", "4"],
+        &["serve", "four", "--reads", "0"],
+        &["serve", "four", "--reads", "1025"],
+        &["serve", "four", "--cache", "0"],
+        &["serve", "four", "--cache", "65537"],
         &["serve", "--size", "449", "four"],
         &["show", "four"],
         &["--help", "four"],
@@ -155,7 +160,7 @@ fn scripts_outside_their_grammar_are_named_by_line(rt: HostRuntime) -> Result<()
         ("r 4294967296\n", "vx: line 1\n"),
         ("go\n\ngo\n", "vx: line 2\n"),
         ("go \n", "vx: line 1\n"),
-        ("r 0\nr 0\n", "vx: script\n"),
+        ("d 0\nd -1\n", "vx: line 2\n"),
     ];
     for (script, message) in scripts {
         let left = serve_four(alloc, script, four(alloc)?, Failing::nowhere(alloc))?;
@@ -376,6 +381,62 @@ fn a_failed_span_fails_its_read_alone(rt: HostRuntime) -> Result<(), Fail> {
         "registered 0\ndriven 0\npending\ndriven 1\nspan 8 80010 ReadFault 0\nfailed ReadFault 8 80002\nnot-live\n",
     )?;
     assert!(rt; left.is(0, wanted.as_str(), ""));
+    Ok(())
+}
+
+#[test]
+fn requests_are_joined_dropped_and_kept(rt: HostRuntime) -> Result<(), Fail> {
+    let alloc = rt.alloc();
+    let rows: [(&[&str], &str, &str); 6] = [
+        (
+            &["serve", "four"],
+            "r 0\nr 0\np 0\nd 0\ngo\np 1",
+            "registered 0\nregistered 1\npending\ndropped\ndriven 1\nspan 8 80010 ok 0\nready 0a0a",
+        ),
+        (
+            &["serve", "four"],
+            "r 0\ngo\np 0\nd 0\ngo\np 0",
+            "registered 0\ndriven 0\npending\ndropped\ndriven 0\nnot-live\n",
+        ),
+        (
+            &["serve", "four"],
+            "r 0\np 0\ngo\nr 0",
+            "registered 0\npending\ndriven 1\nspan 8 80010 ok 0\nregistered 1\n",
+        ),
+        (
+            &["serve", "four", "--cache", "1"],
+            "r 0\np 0\ngo\nr 0",
+            "registered 0\npending\ndriven 1\nspan 8 80010 ok 0\nregistered 1 held\n",
+        ),
+        (
+            &[
+                "serve",
+                "four",
+                "--reads",
+                "1",
+                "--distance",
+                "9",
+                "--max",
+                "0",
+            ],
+            "r 0\np 0\ngo\nd 0",
+            "registered 0\npending\ndriven 1\nspan 8 80010 ok 0\ndropped\n",
+        ),
+        (
+            &["serve", "four", "--distance", "18446744073709551615"],
+            "r 0\nr 1\np 0\nd 1",
+            "registered 0\nmissing-segment\npending\nnot-live\n",
+        ),
+    ];
+    for (words, script, text) in rows {
+        let input = Vec::from_slice(alloc, script.as_bytes())?;
+        let file = file_of(alloc, 20_000, 80_002)?;
+        let left = run_over(alloc, words, input, file, Failing::nowhere(alloc))?;
+        let mut wanted = String::from_str(alloc, FAR_FOOTER)?;
+        wanted.push_str(text)?;
+        assert_eq!(rt; left.status, 0);
+        assert!(rt; left.out.as_slice().starts_with(wanted.as_bytes()));
+    }
     Ok(())
 }
 

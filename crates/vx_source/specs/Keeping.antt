@@ -1,9 +1,9 @@
 -- Caches that stand in this crate, and what they tell.
-use Rattle.std.specs.Prelude.{ℕ, ◌==◌, ◌&&◌, ◌++◌, true, false, List, length, map, Some}
+use Rattle.std.specs.Prelude.{ℕ, ◌==◌, ◌&&◌, ◌++◌, true, false, List, [], length, map, Some}
 use Rattle.std.specs.Option.{option_map}
 use Rattle.vx_base.specs.Buffer.{Buffer}
 use Rattle.vx_base.specs.Caches.{Segments, CacheState}
-use Rattle.lru.specs.LruCache.{LruCache}
+use Rattle.lru.specs.LruCache.{LruCache, lru_cache}
 
 -- a cache of the segments that were used last: its entries, the last used one first, and how many there may be; the
 -- log of its puts, and the count of those that found no memory
@@ -26,6 +26,10 @@ lru_state c = record {
   faults = 0;
   lost = c.lost;
 }
+
+-- such a cache of so many segments, which has none yet
+abbrev pub new_lru : ℕ → LruState
+new_lru capacity = record { kept = lru_cache [] capacity; puts = []; lost = 0 }
 
 -- a cache behind segments that are at hand: these come first, and it never gives an entry only where there are none
 abbrev pub in_front : Segments → CacheState → CacheState

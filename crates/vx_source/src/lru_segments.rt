@@ -3,7 +3,7 @@ ghost use Rattle.std.specs.Prelude.{◌≡◌, ◌++◌, ◌∷◌, ◌≤◌, [
 ghost use Rattle.std.specs.Map.{lookup};
 ghost use Rattle.lru.specs.LruCache.{lru_cache, promoted, put_entries};
 ghost use Rattle.vx_base.specs.Counts.{Rises, next_count};
-ghost use Rattle.vx_source.specs.Keeping.{LruState, lru_state};
+ghost use Rattle.vx_source.specs.Keeping.{LruState, lru_state, new_lru};
 
 use lru::LruCache;
 use std::alloc::{AllocError, Global};
@@ -31,7 +31,7 @@ impl LruSegments {
     /// An empty cache of so many segments. Only memory refuses.
     pub fn new(alloc: Global, capacity: usize) -> Result<LruSegments, AllocError>
         requires { 1 ≤ capacity }
-        ensures { IfOk result (λ c. c ≡ record { kept = lru_cache [] capacity; puts = []; lost = 0 }) }
+        ensures { IfOk result (λ c. c ≡ new_lru capacity) }
     {
         let Some(most) = NonZeroUsize::new(capacity) else {
             unreachable!();

@@ -21,6 +21,13 @@ const SIZE: &[u8] = b"      --size N      the file has N bytes: its size is not 
 const INITIAL: &[u8] =
     b"      --initial N   the first read asks for the last N bytes, 65535 at least\n";
 
+const DISTANCE: &[u8] =
+    b"      --distance D  reads at most D bytes apart are merged, and --max M: into one\n                    of at most M bytes\n";
+
+const READS: &[u8] = b"      --reads K     one call asks for at most K ranges, 1 to 1024\n";
+
+const CACHE: &[u8] = b"      --cache N     the N segments used last are kept, 1 to 65536\n";
+
 const DEMO: &[u8] =
     b"  demo V ..     the same with a file of the values V, 1 to 8192 numbers of 32\n                bits, which it writes to memory\n";
 
@@ -35,6 +42,8 @@ const REGISTER: &[u8] =
 
 const POLL: &[u8] = b"  p NUMBER      polls the request of a number\n";
 
+const DROP: &[u8] = b"  d NUMBER      drops the request of a number\n";
+
 const DRIVE: &[u8] = b"  go            reads for each request that was polled and waits\n\n";
 
 const STATUSES: &[u8] = b"exit statuses, each with a line on standard error but 0\n";
@@ -43,10 +52,9 @@ const STATUSES_2: &[u8] =
     b"  0  all was printed                    6  the input could not be read\n  2  the arguments are no command       7  the output could not be written\n";
 
 const STATUSES_3: &[u8] =
-    b"  3  a line of the script is no step,   8  the file could not be opened\n     or a segment is registered twice   9  the input is too long\n";
+    b"  3  a line of the script is no step    8  the file could not be opened\n  4  the file is refused                9  the input is too long\n";
 
-const STATUSES_4: &[u8] =
-    b"  4  the file is refused               70  out of memory\n  5  the file could not be read\n\n";
+const STATUSES_4: &[u8] = b"  5  the file could not be read        70  out of memory\n\n";
 
 const EXAMPLE: &[u8] = b"example\n  printf 'r 0\\np 0\\n' | vx demo 1 2 3 4\n";
 
@@ -61,12 +69,16 @@ pub(crate) fn put_help<S: Sink>(text: &mut TextOut, out: &mut S)
     text.word(out, SERVE_MORE);
     text.word(out, SIZE);
     text.word(out, INITIAL);
+    text.word(out, DISTANCE);
+    text.word(out, READS);
+    text.word(out, CACHE);
     text.word(out, DEMO);
     text.word(out, TEXTS);
     text.word(out, OPTIONS);
     text.word(out, SCRIPT);
     text.word(out, REGISTER);
     text.word(out, POLL);
+    text.word(out, DROP);
     text.word(out, DRIVE);
     text.word(out, STATUSES);
     text.word(out, STATUSES_2);

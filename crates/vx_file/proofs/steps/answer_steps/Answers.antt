@@ -61,8 +61,8 @@ returns-in_err-push-clause-stopped g c = on-err c.from_residual-in_err-push.resu
     let i = c.loop-step.invariant in
     let e = c.in_ok-reply.ensures in
     let turned = answering-turn w c.args.script.now c.args.session.now c.loop-step.step-index (Register 0) (state c.args.reader.now) (state c.loop-step.reader) (state c.answer_step.new.reader)
-        (cache c.args.cache.now) (cache c.loop-step.cache) (cache c.answer_step.new.cache) c.loop-step.replies c.loop-step.session c.answer_step.new.session c.in_ok-reply.reply (omega arith)
-        (i.answering w st) e.same_cache (λ past st_now. e.answered w past st_now) (λ past file told st_now h t. e.stays w past file (i.same.bytes ∙ told) st_now h t) in
+    (cache c.args.cache.now) (cache c.loop-step.cache) (cache c.answer_step.new.cache) c.loop-step.replies c.loop-step.session c.answer_step.new.session c.in_ok-reply.reply (omega arith)
+    (i.answering w st) e.same_cache (λ past st_now. e.answered w past st_now) (λ past file told st_now h t. e.stays w past file (i.same.bytes ∙ told) st_now h t) in
     answering-stops w c.args.script.now c.args.session.now _ (state c.args.reader.now) (state c.answer_step.new.reader) (state c.answer_step.new.reader) (cache c.args.cache.now) (cache c.answer_step.new.cache) _ c.answer_step.new.session turned
     (nothing-stops w turned.history (state c.answer_step.new.reader).log))
 
