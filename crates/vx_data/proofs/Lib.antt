@@ -10,3 +10,8 @@ pub mod Children
 pub mod FieldTables
 pub mod LayoutTables
 pub mod DtypeBack
+pub mod QuoteSteps
+pub mod ParsedFields
+pub mod QuotedBack
+pub mod TypesBack
+pub mod PathOrder

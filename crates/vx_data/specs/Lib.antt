@@ -15,3 +15,5 @@ pub mod ChildTypes
 pub mod Written
 pub mod DtypeWritten
 pub mod LayoutWritten
+pub mod TextsRead
+pub mod Paths

@@ -9,7 +9,7 @@ use crate::{DType, Fields, PType};
 use std::alloc::{AllocError, Global};
 
 /// The name of a type of integers.
-fn name_of(ptype: PType) -> &'static str
+pub(crate) fn name_of(ptype: PType) -> &'static str
     ensures { result.now ≡ ptype_name ptype }
 {
     match ptype {

@@ -1,5 +1,5 @@
 //! The place of a field in a type.
-ghost use Rattle.std.specs.Prelude.{◌≡◌, map, string_bytes};
+ghost use Rattle.std.specs.Prelude.{◌≡◌, ◌-◌, nat_lt, length, map, take, string_bytes};
 
 use std::marker::Model;
 
@@ -30,5 +30,14 @@ impl FieldPath {
         ensures { map string_bytes result.now ≡ self.now }
     {
         &self.parts
+    }
+
+    /// Takes the last name away, if there is one.
+    #[tactic(auto, using(crate::proofs::PathOrder::pop_steps))]
+    pub fn pop(&mut self) -> bool
+        ensures value { result ≡ nat_lt 0 (length self.old) }
+        ensures rest { self.new ≡ take (length self.old - 1) self.old }
+    {
+        self.parts.pop().is_some()
     }
 }

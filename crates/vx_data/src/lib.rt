@@ -3,6 +3,7 @@
 
 mod data_error;
 mod dtype;
+mod dtype_parsing;
 mod dtype_parts;
 mod dtype_reading;
 mod dtype_text;
@@ -19,6 +20,7 @@ mod layout_shape;
 mod layout_table;
 mod layout_walk;
 mod layout_writing;
+mod path_order;
 mod ptype;
 mod quoted;
 mod read_back;
@@ -31,6 +33,9 @@ mod stats_entry;
 mod stats_reading;
 mod stats_set;
 mod table_write_error;
+mod text_error;
+mod texts_back;
+mod unquoting;
 
 pub use data_error::DataError;
 pub use dtype::{DType, Fields};
@@ -48,6 +53,9 @@ pub use sharing::may_be_shared;
 pub use stats_reading::{columns, read_stats};
 pub use stats_set::{Precision, Stat, StatsSet};
 pub use table_write_error::TableWriteError;
+pub use text_error::TextError;
+pub use texts_back::{dtype_text_is_read, quoted_text_is_read};
+pub use unquoting::{after, read_quoted, unquote};
 
 #[cfg(test)]
 mod tests;

@@ -6,7 +6,7 @@ ghost use Rattle.vx_data.specs.Texts.{is_quote_plain, upper_hex_digit, quoted_by
 use std::alloc::{AllocError, Global};
 
 /// Whether a byte stands for itself.
-fn is_plain(byte: u8) -> bool
+pub(crate) fn is_plain(byte: u8) -> bool
     ensures value { result ≡ is_quote_plain byte }
 {
     byte.is_ascii_alphanumeric() || byte == b'_' || byte == b'.' || byte == b'-'

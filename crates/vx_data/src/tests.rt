@@ -345,3 +345,114 @@ fn within_struct(alloc: Global, dtype: DType) -> Result<DType, Fail> {
     fields.push((String::from_str(alloc, "a")?, dtype))?;
     Ok(DType::Struct(Fields::new(fields), false))
 }
+
+// The text that a quoted text spells, or the name of the refusal.
+fn told_text(alloc: Global, text: &str) -> Result<String, Fail> {
+    match unquote(alloc, text) {
+        Ok(spelled) => Ok(spelled),
+        Err(error) => Ok(format!(in alloc; "{error:?}")?),
+    }
+}
+
+#[test]
+fn reads_quoted_texts(rt: HostRuntime) -> Result<(), Fail> {
+    let cases = [
+        ("%", ""),
+        ("a-b_c.9", "a-b_c.9"),
+        ("a%20b", "a b"),
+        ("%C3%A9", "\u{e9}"),
+        ("%25", "%"),
+        ("", "BadText"),
+        ("a b", "BadText"),
+        ("%%", "BadText"),
+        ("%2", "BadText"),
+        ("%41", "BadText"),
+        ("%c3%A9", "BadText"),
+        ("%C3", "BadText"),
+    ];
+    for (text, answer) in cases {
+        assert_eq!(rt; told_text(rt.alloc(), text)?.as_str(), answer);
+    }
+    Ok(())
+}
+
+// The text of the type that a text spells, or the name of the refusal.
+fn told_type(alloc: Global, text: &str) -> Result<String, Fail> {
+    match DType::from_text(alloc, text) {
+        Ok(dtype) => Ok(dtype.to_text(alloc)?),
+        Err(error) => Ok(format!(in alloc; "{error:?}")?),
+    }
+}
+
+// Structs, so many of them one in the other, around a type.
+fn nested_text(alloc: Global, levels: usize) -> Result<String, Fail> {
+    let mut text = String::new(alloc);
+    for _level in 0..levels {
+        text.push_str("{a:")?;
+    }
+    text.push_str("u8")?;
+    for _level in 0..levels {
+        text.push_str("}")?;
+    }
+    Ok(text)
+}
+
+#[test]
+fn reads_texts_of_types(rt: HostRuntime) -> Result<(), Fail> {
+    let spelled = [
+        "bool",
+        "u8",
+        "u16?",
+        "u32",
+        "u64",
+        "i8",
+        "i16",
+        "i32?",
+        "i64",
+        "text",
+        "text?",
+        "{}",
+        "{}?",
+        "{a:i32}",
+        "{%:i8}",
+        "{a:i32,a:text?,b:{c:bool}?}",
+        "{%3F:{}}",
+    ];
+    for text in spelled {
+        assert_eq!(rt; told_type(rt.alloc(), text)?.as_str(), text);
+    }
+    let refused = [
+        "",
+        " ",
+        "I32",
+        "i32 ",
+        "i32??",
+        "i3",
+        "i322",
+        "{",
+        "}",
+        "{a}",
+        "{a:}",
+        "{:i8}",
+        "{a:i32,}",
+        "{,a:i8}",
+        "{a:i32;b:i8}",
+        "{%41:i32}",
+        "{a:i32}}",
+        "{}{}",
+        "{ a:i8}",
+        "{%FF:i8}",
+        "boolean",
+    ];
+    for text in refused {
+        assert_eq!(rt; told_type(rt.alloc(), text)?.as_str(), "BadText");
+    }
+    let deep = nested_text(rt.alloc(), 63)?;
+    assert_eq!(rt;
+        told_type(rt.alloc(), deep.as_str())?.as_str(),
+        deep.as_str()
+    );
+    let deeper = nested_text(rt.alloc(), 64)?;
+    assert_eq!(rt; told_type(rt.alloc(), deeper.as_str())?.as_str(), "BadText");
+    Ok(())
+}

@@ -8,3 +8,10 @@ pub mod Sets
 pub mod Written
 pub mod Vectors
 pub mod Seen
+pub mod VisitSteps
+pub mod CommonSteps
+pub mod SizeSteps
+pub mod PathLemmas
+pub mod CountLemmas
+pub mod TotalLemmas
+pub mod ChildLemmas

@@ -1,8 +1,10 @@
 //! Reads the footer of a file from its tail, and writes it.
 #![tactic(auto)]
 
+mod common_paths;
 mod deserializer;
 mod error;
+mod field_sizes;
 mod footer;
 mod footer_table;
 mod marker;
@@ -12,18 +14,27 @@ mod read_back;
 mod rows;
 mod serialize_error;
 mod serializing;
+mod shared_path;
 mod sharing;
+mod size_laws;
+mod sizes;
+mod sizes_error;
 mod statistics;
 mod tables;
 mod version;
+mod visits;
 
 pub use deserializer::{DeserializeStep, FooterDeserializer};
 pub use error::{OpenError, PastEnd, Which};
+pub use field_sizes::FieldSizes;
 pub use footer::Footer;
 pub use postscript::{Postscript, PostscriptMetadata, PostscriptSegment};
 pub use read_back::{bytes_are_asked_once, written_footer_is_read};
 pub use serialize_error::SerializeError;
 pub use sharing::may_be_shared;
+pub use size_laws::{size_is_that_of_fields_below, total_counts_each_segment_once};
+pub use sizes::CompressedFieldSizes;
+pub use sizes_error::SizesError;
 pub use statistics::FileStatistics;
 pub use version::{
     EOF_SIZE, FileVersion, LATEST_VERSION, MAGIC_BYTES, MAX_POSTSCRIPT_SIZE, V1_FOOTER_FBS_SIZE,
