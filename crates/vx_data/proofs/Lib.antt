@@ -10,3 +10,4 @@ pub mod Children
 pub mod FieldTables
 pub mod LayoutTables
 pub mod DtypeBack
+pub mod SetsWritten

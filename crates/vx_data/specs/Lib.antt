@@ -15,3 +15,4 @@ pub mod ChildTypes
 pub mod Written
 pub mod DtypeWritten
 pub mod LayoutWritten
+pub mod StatsWritten

@@ -30,6 +30,7 @@ mod sharing;
 mod stats_entry;
 mod stats_reading;
 mod stats_set;
+mod stats_writing;
 mod table_write_error;
 
 pub use data_error::DataError;
@@ -47,6 +48,7 @@ pub use session::{ComponentKind, VortexSession};
 pub use sharing::may_be_shared;
 pub use stats_reading::{columns, read_stats};
 pub use stats_set::{Precision, Stat, StatsSet};
+pub use stats_writing::write_stats;
 pub use table_write_error::TableWriteError;
 
 #[cfg(test)]
