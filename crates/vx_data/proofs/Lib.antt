@@ -11,3 +11,4 @@ pub mod FieldTables
 pub mod LayoutTables
 pub mod DtypeBack
 pub mod SetsWritten
+pub mod LayoutUses

@@ -16,3 +16,4 @@ pub mod Written
 pub mod DtypeWritten
 pub mod LayoutWritten
 pub mod StatsWritten
+pub mod LayoutIds

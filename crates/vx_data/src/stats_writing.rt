@@ -189,7 +189,7 @@ fn entry_of(alloc: Global, set: &StatsSet, dtype: &DType) -> Result<StatsEntry, 
 
 /// The statistics of columns of these types.
 #[tactic(auto, using(crate::proofs::SetsWritten::next_entry, crate::proofs::SetsWritten::no_entry))]
-fn entries_of(
+pub(crate) fn entries_of(
     alloc: Global,
     sets: &[StatsSet],
     dtypes: &[DType],
@@ -291,7 +291,7 @@ fn entry_visits(entry: &StatsEntry) -> u64
 }
 
 /// The visits that are left behind those of columns' statistics.
-fn visits_left(entries: &[StatsEntry], visits: u64) -> Option<u64>
+pub(crate) fn visits_left(entries: &[StatsEntry], visits: u64) -> Option<u64>
     ensures { result ≡ left_of (sum_by visits_of_entry entries.now) visits }
 {
     let mut left = visits;
