@@ -8,3 +8,6 @@ pub mod Sets
 pub mod Written
 pub mod Vectors
 pub mod Seen
+pub mod PostscriptSize
+pub mod PostscriptBack
+pub mod PaddingLemmas

@@ -8,3 +8,5 @@ pub mod Deserializing
 pub mod Steps
 pub mod Serialized
 pub mod Writable
+pub mod PostscriptWritten
+pub mod Placing

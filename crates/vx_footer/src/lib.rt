@@ -6,8 +6,10 @@ mod error;
 mod footer;
 mod footer_table;
 mod marker;
+mod placing;
 mod postscript;
 mod postscript_table;
+mod postscript_writing;
 mod read_back;
 mod rows;
 mod serialize_error;
@@ -16,11 +18,14 @@ mod sharing;
 mod statistics;
 mod tables;
 mod version;
+mod write_error;
 
 pub use deserializer::{DeserializeStep, FooterDeserializer};
 pub use error::{OpenError, PastEnd, Which};
 pub use footer::Footer;
+pub use placing::padding;
 pub use postscript::{Postscript, PostscriptMetadata, PostscriptSegment};
+pub use postscript_writing::written_postscript_is_read;
 pub use read_back::{bytes_are_asked_once, written_footer_is_read};
 pub use serialize_error::SerializeError;
 pub use sharing::may_be_shared;
@@ -29,6 +34,9 @@ pub use version::{
     EOF_SIZE, FileVersion, LATEST_VERSION, MAGIC_BYTES, MAX_POSTSCRIPT_SIZE, V1_FOOTER_FBS_SIZE,
     VERSION, VORTEX_FILE_EXTENSION,
 };
+pub use write_error::WriteError;
 
+#[cfg(test)]
+mod postscript_tests;
 #[cfg(test)]
 mod tests;

@@ -121,7 +121,10 @@ fn footer_table(
 }
 
 /// The table that says where another lies.
-fn place_table(alloc: Global, place: &PostscriptSegment) -> Result<TableWriter, AllocError>
+pub(crate) fn place_table(
+    alloc: Global,
+    place: &PostscriptSegment,
+) -> Result<TableWriter, AllocError>
     ensures { IfOk result (λ t. t ≡ place_pieces place.now) }
 {
     let mut table = TableWriter::new(alloc);
