@@ -11,3 +11,5 @@ pub mod Seen
 pub mod PostscriptSize
 pub mod PostscriptBack
 pub mod PaddingLemmas
+pub mod ValueLemmas
+pub mod RootLemmas

@@ -10,3 +10,6 @@ pub mod Serialized
 pub mod Writable
 pub mod PostscriptWritten
 pub mod Placing
+pub mod Serializing
+pub mod Serializers
+pub mod WriteErrors

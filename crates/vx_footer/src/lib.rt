@@ -6,6 +6,7 @@ mod error;
 mod footer;
 mod footer_table;
 mod marker;
+mod metadata_values;
 mod placing;
 mod postscript;
 mod postscript_table;
@@ -13,6 +14,8 @@ mod postscript_writing;
 mod read_back;
 mod rows;
 mod serialize_error;
+mod serializer;
+mod serializer_tables;
 mod serializing;
 mod sharing;
 mod statistics;
@@ -28,6 +31,7 @@ pub use postscript::{Postscript, PostscriptMetadata, PostscriptSegment};
 pub use postscript_writing::written_postscript_is_read;
 pub use read_back::{bytes_are_asked_once, written_footer_is_read};
 pub use serialize_error::SerializeError;
+pub use serializer::{FooterSerializer, Serialized};
 pub use sharing::may_be_shared;
 pub use statistics::FileStatistics;
 pub use version::{
@@ -38,5 +42,7 @@ pub use write_error::WriteError;
 
 #[cfg(test)]
 mod postscript_tests;
+#[cfg(test)]
+mod serializer_tests;
 #[cfg(test)]
 mod tests;

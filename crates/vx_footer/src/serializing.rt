@@ -72,7 +72,7 @@ fn id_table(alloc: Global, id: &str) -> Result<TableWriter, AllocError>
 }
 
 /// The tables of encodings, one for each id.
-fn id_tables(alloc: Global, ids: &[String]) -> Result<Vec<TableWriter>, AllocError>
+pub(crate) fn id_tables(alloc: Global, ids: &[String]) -> Result<Vec<TableWriter>, AllocError>
     ensures { IfOk result (λ v. v.items ≡ map id_pieces (map string_bytes ids.now)) }
 {
     let mut tables = Vec::new(alloc);

@@ -2,6 +2,7 @@
 
 use std::alloc::{AllocError, AllocFailed};
 use thiserror::Error;
+use vx_data::TableWriteError;
 
 /// Why a file is not written, or not whole.
 #[derive(Clone, Copy, Debug, PartialEq, Eq, Error)]
@@ -75,5 +76,21 @@ impl<T: Drop> From<AllocFailed<T>> for WriteError {
 
     fn from(_error: AllocFailed<T>) -> WriteError {
         WriteError::OutOfMemory
+    }
+}
+
+impl From<TableWriteError> for WriteError {
+    ghost use Rattle.std.specs.Prelude.{◌≡◌};
+    ghost use Rattle.vx_footer.specs.WriteErrors.{of_table_write};
+
+    ghost from_gives = { λ error e. e ≡ of_table_write error };
+
+    fn from(error: TableWriteError) -> WriteError {
+        match error {
+            TableWriteError::TooDeep => WriteError::TooDeep,
+            TableWriteError::TooManyTables => WriteError::TooManyTables,
+            TableWriteError::TableTooLong => WriteError::SegmentTooLong,
+            TableWriteError::OutOfMemory => WriteError::OutOfMemory,
+        }
     }
 }

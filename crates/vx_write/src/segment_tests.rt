@@ -27,8 +27,8 @@ fn places_segments(rt: HostRuntime) -> Result<(), Fail> {
     let told = format!(in alloc; "{:?}", segments.segment_specs())?;
     let bytes = out.into_bytes();
     assert_eq!(rt; bytes.len(), 19);
-    assert_eq!(rt; bytes.get(..5).ok_or("short")?, [0, 0, 0, 0, 7]);
-    assert_eq!(rt; bytes.get(13..).ok_or("short")?, [7, 0, 0, 8, 8, 9]);
+    assert_eq!(rt; bytes.get(..5).ok_or("short")?, [0, 0, 0, 0, 7].as_slice());
+    assert_eq!(rt; bytes.get(13..).ok_or("short")?, [7, 0, 0, 8, 8, 9].as_slice());
     assert_eq!(rt; told.as_str(),
         "[SegmentSpec { offset: 8, length: 10, alignment: Alignment { exponent: 3 } }, \
          SegmentSpec { offset: 20, length: 3, alignment: Alignment { exponent: 2 } }, \
