@@ -15,3 +15,5 @@ pub mod ParsedFields
 pub mod QuotedBack
 pub mod TypesBack
 pub mod PathOrder
+pub mod SetsWritten
+pub mod LayoutUses

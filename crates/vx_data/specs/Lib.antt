@@ -17,3 +17,5 @@ pub mod DtypeWritten
 pub mod LayoutWritten
 pub mod TextsRead
 pub mod Paths
+pub mod StatsWritten
+pub mod LayoutIds

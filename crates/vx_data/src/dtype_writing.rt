@@ -139,7 +139,7 @@ fn fields_are_shallow(fields: &Fields, levels: usize) -> bool
 
 /// Whether a type has at most so many levels of tables. It looks no deeper.
 #[cycle(measuring)]
-fn is_shallow(dtype: &DType, levels: usize) -> bool
+pub(crate) fn is_shallow(dtype: &DType, levels: usize) -> bool
     ensures { result ≡ nat_le (levels_of (dtype_view dtype.now)) levels }
 {
     if levels == 0 {
@@ -179,7 +179,7 @@ fn fields_left(fields: &Fields, visits: u64) -> Option<u64>
 
 /// The visits that are left behind those of a type.
 #[cycle(visiting)]
-fn visits_left(dtype: &DType, visits: u64) -> Option<u64>
+pub(crate) fn visits_left(dtype: &DType, visits: u64) -> Option<u64>
     ensures { result ≡ left_of (visits_of (dtype_view dtype.now)) visits }
 {
     match dtype {

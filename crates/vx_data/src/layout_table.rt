@@ -10,7 +10,7 @@ use vx_base::SegmentId;
 use vx_tables::TableWriter;
 
 /// The id of a kind.
-fn name_of(kind: LayoutKind) -> &'static str
+pub(crate) fn name_of(kind: LayoutKind) -> &'static str
     ensures { result.now ≡ kind_id kind }
 {
     match kind {

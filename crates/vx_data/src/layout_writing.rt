@@ -28,7 +28,7 @@ fn are_shallow(layouts: &[Layout], levels: usize) -> bool
 /// Whether a layout has at most so many levels of tables. It looks no deeper.
 #[cycle(measuring)]
 #[tactic(auto, using(crate::proofs::LayoutTables::levels_are))]
-fn is_shallow(layout: &Layout, levels: usize) -> bool
+pub(crate) fn is_shallow(layout: &Layout, levels: usize) -> bool
     ensures { result ≡ nat_le (tree_levels layout.now) levels }
 {
     if levels == 0 {
@@ -84,7 +84,7 @@ fn all_left(layouts: &[Layout], visits: u64) -> Option<u64>
 /// The visits that are left behind those of a layout.
 #[cycle(visiting)]
 #[tactic(auto, using(crate::proofs::LayoutTables::visits_are))]
-fn visits_left(layout: &Layout, visits: u64) -> Option<u64>
+pub(crate) fn visits_left(layout: &Layout, visits: u64) -> Option<u64>
     ensures { result ≡ left_of (tree_visits layout.now) visits }
 {
     let own = own_visits(layout.children(), layout.segment_ids());

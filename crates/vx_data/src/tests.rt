@@ -291,6 +291,38 @@ fn told_sets(alloc: Global, sets: &[StatsSet]) -> Result<String, Fail> {
     }
 }
 
+// The table of one column: a vtable of one slot, the offset of a vector of one table; that table's vtable, and
+// its minimum, maximum and null count with their precisions; the bytes of the minimum and the maximum.
+const STATISTICS: [u8; 81] = [
+    0x0a, 0x00, 0x00, 0x00, 0x06, 0x00, 0x08, 0x00, 0x04, 0x00, 0x06, 0x00, 0x00, 0x00, 0x04, 0x00,
+    0x00, 0x00, 0x01, 0x00, 0x00, 0x00, 0x14, 0x00, 0x00, 0x00, 0x10, 0x00, 0x17, 0x00, 0x04, 0x00,
+    0x08, 0x00, 0x09, 0x00, 0x0d, 0x00, 0x0e, 0x00, 0x16, 0x00, 0x10, 0x00, 0x00, 0x00, 0x13, 0x00,
+    0x00, 0x00, 0x01, 0x16, 0x00, 0x00, 0x00, 0x00, 0x02, 0x00, 0x00, 0x00, 0x00, 0x00, 0x00, 0x00,
+    0x01, 0x04, 0x00, 0x00, 0x00, 0xfe, 0xff, 0xff, 0xff, 0x04, 0x00, 0x00, 0x00, 0x05, 0x00, 0x00,
+    0x00,
+];
+
+#[test]
+fn writes_statistics(rt: HostRuntime) -> Result<(), Fail> {
+    let mut set = StatsSet::new();
+    set.set(Stat::Min, Scalar::Int(-2), Precision::Exact);
+    set.set(Stat::Max, Scalar::Int(5), Precision::Inexact);
+    set.set(Stat::NullCount, Scalar::Int(2), Precision::Exact);
+    let mut sets = Vec::new(rt.alloc());
+    sets.push(set)?;
+    let mut dtypes = Vec::new(rt.alloc());
+    dtypes.push(DType::Int(PType::I32, true))?;
+    let buffer = write_stats(rt.alloc(), &sets, &dtypes)?;
+    assert_eq!(rt; buffer.as_slice(), STATISTICS.as_slice());
+    let read = read_stats(rt.alloc(), buffer.as_slice(), &DType::Int(PType::I32, true))?;
+    assert_eq!(rt;
+        told_sets(rt.alloc(), &read)?,
+        told_sets(rt.alloc(), &sets)?
+    );
+    assert!(rt; stats_have_few_visits(rt.alloc(), &sets, &dtypes)?);
+    Ok(())
+}
+
 #[test]
 fn enables_ids(rt: HostRuntime) -> Result<(), Fail> {
     let session = VortexSession::new(rt.alloc())?;
@@ -312,8 +344,9 @@ fn writes_tables(rt: HostRuntime) -> Result<(), Fail> {
     let dtype = DType::Int(PType::I32, false);
     assert_eq!(rt; dtype.write(rt.alloc())?.as_slice(), DTYPE.as_slice());
     let layout = Layout::flat(rt.alloc(), dtype, 4, SegmentId(0))?;
-    let mut ids = Vec::new(rt.alloc());
-    ids.push(String::from_str(rt.alloc(), "vortex.flat")?)?;
+    let ids = layout.used_ids(rt.alloc())?;
+    assert!(rt; layout.has_few_levels() && layout.has_few_visits());
+    assert_eq!(rt; ids.len(), 1);
     assert_eq!(rt;
         layout.write(rt.alloc(), &ids)?.as_slice(),
         LAYOUT.as_slice()

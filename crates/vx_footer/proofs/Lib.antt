@@ -15,3 +15,8 @@ pub mod PathLemmas
 pub mod CountLemmas
 pub mod TotalLemmas
 pub mod ChildLemmas
+pub mod PostscriptSize
+pub mod PostscriptBack
+pub mod PaddingLemmas
+pub mod ValueLemmas
+pub mod RootLemmas

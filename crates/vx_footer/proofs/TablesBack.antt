@@ -91,14 +91,14 @@ layout_checked d rows segment few low = rw (layout_back rows segment few low) re
 -- ---- the postscript
 
 -- a place as it stands
-abbrev raw : PostscriptSegment → Locator
+abbrev pub raw : PostscriptSegment → Locator
 raw s = record { offset = s.offset; length = s.length; exponent = s.alignment; is_coded = false }
 
 -- the numbers fit their widths
-record IsNarrow (s : PostscriptSegment) : Type 0 where
-  offset : s.offset < 2 ^ 64
-  size : s.length < 2 ^ 32
-  exponent : s.alignment < 256
+pub record IsNarrow (s : PostscriptSegment) : Type 0 where
+  pub offset : s.offset < 2 ^ 64
+  pub size : s.length < 2 ^ 32
+  pub exponent : s.alignment < 256
 
 locator_back : (b : List ℕ) (t : Table) (s : PostscriptSegment) → IsNarrow s → ReadsBack b t (place_pieces s) → locator b t ≡ Some (raw s)
 unfolding locator
@@ -110,22 +110,22 @@ locator_back b t s narrow reads =
     let encryption : field w8 b t 4 ≡ Some None = no_number w8 b t 4 (reads.absent 4 refl) in
     rw (offset, size, exponent, compression, encryption) refl
 
-locator_gets : (b : List ℕ) (t : Table) (ps : List Piece) (k : ℕ) (s : PostscriptSegment) → IsNarrow s → ReadsBack b t ps → piece_at k ps ≡ Some (table k (place_pieces s)) → Gets (locator_field b t k) (Some (raw s)) 1 1
+pub locator_gets : (b : List ℕ) (t : Table) (ps : List Piece) (k : ℕ) (s : PostscriptSegment) → IsNarrow s → ReadsBack b t ps → piece_at k ps ≡ Some (table k (place_pieces s)) → Gets (locator_field b t k) (Some (raw s)) 1 1
 unfolding locator_field
 locator_gets b t ps k s narrow reads found =
     let f = reads.table k (place_pieces s) found refl in
     gets-enter_optional (table_field b t k) f.table (λ inner. free (locator b inner)) (raw s) 0 0 f.found
     (gets-free (locator b f.table) (raw s) 0 0 (locator_back b f.table s narrow (reads_back b f.table (place_pieces s) f.stands)))
 
-absent_gets : (b : List ℕ) (t : Table) (k : ℕ) → slot b t k ≡ Some None → Gets (locator_field b t k) None 0 1
+pub absent_gets : (b : List ℕ) (t : Table) (k : ℕ) → slot b t k ≡ Some None → Gets (locator_field b t k) None 0 1
 unfolding locator_field
 absent_gets b t k e = gets-no_table (table_field b t k) (λ inner. free (locator b inner)) 0 1 (no_table b t k e)
 
-required_gets : (b : List ℕ) (t : Table) (ps : List Piece) (k : ℕ) (s : PostscriptSegment) → IsNarrow s → ReadsBack b t ps → piece_at k ps ≡ Some (table k (place_pieces s)) → Gets (locator_required b t k) (raw s) 1 1
+pub required_gets : (b : List ℕ) (t : Table) (ps : List Piece) (k : ℕ) (s : PostscriptSegment) → IsNarrow s → ReadsBack b t ps → piece_at k ps ≡ Some (table k (place_pieces s)) → Gets (locator_required b t k) (raw s) 1 1
 unfolding locator_required
 required_gets b t ps k s narrow reads found = then_gets _ _ (Some (raw s)) (raw s) 1 (locator_gets b t ps k s narrow reads found) (gets-present (raw s) 0 1) (omega arith)
 
-no_metadata : (b : List ℕ) (t : Table) → slot b t 4 ≡ Some None → Gets (metadata_in b t) [] 0 1
+pub no_metadata : (b : List ℕ) (t : Table) → slot b t 4 ≡ Some None → Gets (metadata_in b t) [] 0 1
 unfolding metadata_in or_empty
 no_metadata b t absent =
     let vector : Gets (vector_of b t 4 Offsets) None 0 1 = gets-counted _ (vector_field b t 4 Offsets) None 0 1 (no_vector b t 4 Offsets absent) (omega arith) in

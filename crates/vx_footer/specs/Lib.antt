@@ -10,3 +10,8 @@ pub mod Serialized
 pub mod Writable
 pub mod FieldSizes
 pub mod CommonPaths
+pub mod PostscriptWritten
+pub mod Placing
+pub mod Serializing
+pub mod Serializers
+pub mod WriteErrors

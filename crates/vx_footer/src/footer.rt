@@ -1,5 +1,5 @@
 //! The footer of a file.
-ghost use Rattle.std.specs.Prelude.{◌≡◌, ◌++◌, [], IfOk, IfSome, map, string_bytes, is_ok, position};
+ghost use Rattle.std.specs.Prelude.{◌≡◌, ◌++◌, [], IfOk, IfSome, Some, map, string_bytes, is_ok, position};
 ghost use Rattle.std.specs.List.{list_all};
 ghost use Rattle.std.specs.Option.{option_map};
 ghost use Rattle.std.specs.Str.{bytes_eq};
@@ -17,20 +17,19 @@ use std::sync::Arc;
 use vx_base::{SegmentSpec, Sequence};
 use vx_data::{DType, Layout};
 
-/// The rows of a file: their statistics and layout, and the version of the file.
+/// The rows of a file: their statistics and layout, and the ids of arrays.
 #[derive(Drop)]
 pub(crate) struct Rows {
     stats: Option<FileStatistics>,
     tree: Layout,
-    format: FileVersion,
+    ids: Vec<String>,
 }
 
-/// The segments of a file: those of data, and behind them those of the metadata, and the ids of arrays.
+/// The segments of a file: those of data, and behind them those of the metadata.
 #[derive(Drop)]
 pub(crate) struct Segments {
     entries: Sequence<PostscriptMetadata>,
     table: Vec<SegmentSpec>,
-    ids: Vec<String>,
     data_count: usize,
 }
 
@@ -40,6 +39,7 @@ pub(crate) struct Segments {
 pub struct Footer {
     rows: Arc<Rows, Global>,
     segments: Arc<Segments, Global>,
+    format: FileVersion,
     byte_size: Option<usize>,
 }
 
@@ -57,12 +57,12 @@ impl Model for Footer {
 
     ghost view = { λ a. let r = arc_value a.rows in let s = arc_value a.segments in record {
       content = record {
-        version = r.format;
+        version = a.format;
         layout = r.tree;
         segments = take s.data_count s.table.items;
         statistics = r.stats;
         metadata = s.entries;
-        array_ids = map string_bytes s.ids.items;
+        array_ids = map string_bytes r.ids.items;
       };
       approx_byte_size = a.byte_size;
     } };
@@ -136,18 +136,48 @@ impl Footer {
         let rows = Rows {
             stats: statistics,
             tree: layout,
-            format: version,
+            ids: array_ids,
         };
         let segments = Segments {
             entries: metadata,
             table,
-            ids: array_ids,
             data_count,
         };
         Ok(Footer {
             rows: Arc::new(alloc, rows)?,
             segments: Arc::new(alloc, segments)?,
+            format: version,
             byte_size: None,
+        })
+    }
+
+    /// The footer with this metadata in a file of this version, where it takes so many bytes. Its rows are
+    /// shared.
+    #[tactic(auto, using(crate::proofs::Lists::front_parts, crate::proofs::Lists::back_parts))]
+    pub(crate) fn with_metadata(
+        &self,
+        alloc: Global,
+        version: FileVersion,
+        metadata: Sequence<PostscriptMetadata>,
+        byte_size: usize,
+    ) -> Result<Footer, AllocError>
+        ensures { IfOk result (λ footer. footer ≡ record {
+          content = record self.now.content { version = version; metadata = metadata };
+          approx_byte_size = Some byte_size;
+        }) }
+    {
+        let data = Vec::from_slice(alloc, self.segment_map())?;
+        let data_count = data.len();
+        let segments = Segments {
+            table: table_of(data, metadata.as_slice())?,
+            entries: metadata,
+            data_count,
+        };
+        Ok(Footer {
+            rows: Arc::try_clone(&self.rows)?,
+            segments: Arc::new(alloc, segments)?,
+            format: version,
+            byte_size: Some(byte_size),
         })
     }
 
@@ -197,7 +227,7 @@ impl Footer {
     pub fn version(&self) -> FileVersion
         ensures { result ≡ self.now.content.version }
     {
-        self.rows.format
+        self.format
     }
 
     /// How the rows are laid out.
@@ -265,7 +295,7 @@ impl Footer {
     pub fn array_ids(&self) -> &[String]
         ensures { map string_bytes result.now ≡ self.now.content.array_ids }
     {
-        &self.segments.ids
+        &self.rows.ids
     }
 
     /// How many bytes the footer takes in a file, where that is known.
@@ -293,6 +323,7 @@ impl Footer {
         Ok(Footer {
             rows: Arc::try_clone(&self.rows)?,
             segments: Arc::try_clone(&self.segments)?,
+            format: self.format,
             byte_size: self.byte_size,
         })
     }

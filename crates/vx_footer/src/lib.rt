@@ -8,11 +8,16 @@ mod field_sizes;
 mod footer;
 mod footer_table;
 mod marker;
+mod metadata_values;
+mod placing;
 mod postscript;
 mod postscript_table;
+mod postscript_writing;
 mod read_back;
 mod rows;
 mod serialize_error;
+mod serializer;
+mod serializer_tables;
 mod serializing;
 mod shared_path;
 mod sharing;
@@ -23,14 +28,18 @@ mod statistics;
 mod tables;
 mod version;
 mod visits;
+mod write_error;
 
 pub use deserializer::{DeserializeStep, FooterDeserializer};
 pub use error::{OpenError, PastEnd, Which};
 pub use field_sizes::FieldSizes;
 pub use footer::Footer;
+pub use placing::padding;
 pub use postscript::{Postscript, PostscriptMetadata, PostscriptSegment};
+pub use postscript_writing::written_postscript_is_read;
 pub use read_back::{bytes_are_asked_once, written_footer_is_read};
 pub use serialize_error::SerializeError;
+pub use serializer::{FooterSerializer, Serialized};
 pub use sharing::may_be_shared;
 pub use size_laws::{size_is_that_of_fields_below, total_counts_each_segment_once};
 pub use sizes::CompressedFieldSizes;
@@ -40,6 +49,11 @@ pub use version::{
     EOF_SIZE, FileVersion, LATEST_VERSION, MAGIC_BYTES, MAX_POSTSCRIPT_SIZE, V1_FOOTER_FBS_SIZE,
     VERSION, VORTEX_FILE_EXTENSION,
 };
+pub use write_error::WriteError;
 
+#[cfg(test)]
+mod postscript_tests;
+#[cfg(test)]
+mod serializer_tests;
 #[cfg(test)]
 mod tests;

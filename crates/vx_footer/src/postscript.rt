@@ -93,7 +93,7 @@ fn all_plain(p: &PostscriptRow) -> bool
 }
 
 /// How many metadata entries a file of this version may have.
-fn most_entries(version: FileVersion) -> usize
+pub(crate) fn most_entries(version: FileVersion) -> usize
     ensures value { result ≡ most_of version }
     ensures bound { result ≤ 64 }
 {
@@ -104,7 +104,7 @@ fn most_entries(version: FileVersion) -> usize
 }
 
 /// How many bytes a key may have in a file of this version.
-fn longest_key(version: FileVersion) -> usize
+pub(crate) fn longest_key(version: FileVersion) -> usize
     ensures value { result ≡ longest_of version }
     ensures bound { result ≤ 256 }
 {
@@ -136,7 +136,7 @@ fn aligned_if_any(locator: Option<Locator>) -> Option<Option<PostscriptSegment>>
     }
 }
 
-fn has_key(entries: &[PostscriptMetadata], key: &str) -> bool
+pub(crate) fn has_key(entries: &[PostscriptMetadata], key: &str) -> bool
     ensures { result ≡ has_this_key entries.now key.now }
 {
     entries.iter().any(|entry| entry.key.as_str() == key)

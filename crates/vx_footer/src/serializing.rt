@@ -72,7 +72,7 @@ fn id_table(alloc: Global, id: &str) -> Result<TableWriter, AllocError>
 }
 
 /// The tables of encodings, one for each id.
-fn id_tables(alloc: Global, ids: &[String]) -> Result<Vec<TableWriter>, AllocError>
+pub(crate) fn id_tables(alloc: Global, ids: &[String]) -> Result<Vec<TableWriter>, AllocError>
     ensures { IfOk result (λ v. v.items ≡ map id_pieces (map string_bytes ids.now)) }
 {
     let mut tables = Vec::new(alloc);
@@ -121,7 +121,10 @@ fn footer_table(
 }
 
 /// The table that says where another lies.
-fn place_table(alloc: Global, place: &PostscriptSegment) -> Result<TableWriter, AllocError>
+pub(crate) fn place_table(
+    alloc: Global,
+    place: &PostscriptSegment,
+) -> Result<TableWriter, AllocError>
     ensures { IfOk result (λ t. t ≡ place_pieces place.now) }
 {
     let mut table = TableWriter::new(alloc);

@@ -7,7 +7,7 @@ use vx_tables::TableWriter;
 
 // The tables, the postscript and the end marker of a file of four numbers. The tables begin at
 // offset 26.
-const TAIL: [u8; 423] = [
+pub(crate) const TAIL: [u8; 423] = [
     0x0e, 0x00, 0x00, 0x00, 0x0a, 0x00, 0x07, 0x00, 0x04, 0x00, 0x05, 0x00, 0x06, 0x00, 0x0a, 0x00,
     0x00, 0x00, 0x02, 0x00, 0x06, 0x12, 0x00, 0x00, 0x00, 0x0e, 0x00, 0x12, 0x00, 0x04, 0x00, 0x06,
     0x00, 0x00, 0x00, 0x00, 0x00, 0x0e, 0x00, 0x0e, 0x00, 0x00, 0x00, 0x00, 0x00, 0x04, 0x00, 0x00,
@@ -38,13 +38,13 @@ const TAIL: [u8; 423] = [
 ];
 
 // The file, whose segment is zeros here.
-fn file(alloc: Global) -> Result<Vec<u8>, Fail> {
+pub(crate) fn file(alloc: Global) -> Result<Vec<u8>, Fail> {
     let mut file = Vec::from_slice(alloc, &[0; 26])?;
     file.extend_from_slice(TAIL.as_slice())?;
     Ok(file)
 }
 
-fn read(alloc: Global, bytes: &[u8]) -> Result<Option<Footer>, Fail> {
+pub(crate) fn read(alloc: Global, bytes: &[u8]) -> Result<Option<Footer>, Fail> {
     let buffer = ByteBuffer::from_vec(alloc, Vec::from_slice(alloc, bytes)?, Alignment::none())?;
     let session = VortexSession::new(alloc)?;
     let mut deserializer = Footer::deserializer(buffer, session).with_size(bytes.len() as u64);

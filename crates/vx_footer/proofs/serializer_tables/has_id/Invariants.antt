@@ -1,0 +1,8 @@
+use Rattle.std.proofs.Common.{◌≡◌, map, drop}
+use Rattle.std.specs.Prelude.{string_bytes}
+use Rattle.vx_data.specs.LayoutWritten.{has_id}
+use Rattle.vx_footer.proofs.serializer_tables.has_id.Given as goal
+
+-- it is among those still to come
+abbrev pub invariant-loop-other : goal.invariant-loop-other
+invariant-loop-other l = has_id (map string_bytes (drop l.other-index l.ids)) l.id ≡ has_id (map string_bytes l.ids) l.id
