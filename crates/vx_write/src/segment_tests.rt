@@ -6,11 +6,7 @@ use vx_base::{Alignment, ByteBuffer, MemSink, SegmentId, Sink};
 // A buffer of so many bytes of one value, with this alignment.
 fn buffer(alloc: Global, byte: u8, count: usize, exponent: u8) -> Result<ByteBuffer, Fail> {
     let bytes = vec![in alloc; byte; count]?;
-    Ok(ByteBuffer::from_vec(
-        alloc,
-        bytes,
-        Alignment::new(exponent)?,
-    )?)
+    Ok(ByteBuffer::from_vec(alloc, bytes, Alignment::new(exponent)?)?)
 }
 
 #[test]
@@ -28,11 +24,16 @@ fn places_segments(rt: HostRuntime) -> Result<(), Fail> {
     let bytes = out.into_bytes();
     assert_eq!(rt; bytes.len(), 19);
     assert_eq!(rt; bytes.get(..5).ok_or("short")?, [0, 0, 0, 0, 7].as_slice());
-    assert_eq!(rt; bytes.get(13..).ok_or("short")?, [7, 0, 0, 8, 8, 9].as_slice());
-    assert_eq!(rt; told.as_str(),
+    assert_eq!(rt;
+        bytes.get(13..).ok_or("short")?,
+        [7, 0, 0, 8, 8, 9].as_slice()
+    );
+    assert_eq!(rt;
+        told.as_str(),
         "[SegmentSpec { offset: 8, length: 10, alignment: Alignment { exponent: 3 } }, \
          SegmentSpec { offset: 20, length: 3, alignment: Alignment { exponent: 2 } }, \
-         SegmentSpec { offset: 23, length: 0, alignment: Alignment { exponent: 0 } }]");
+         SegmentSpec { offset: 23, length: 0, alignment: Alignment { exponent: 0 } }]"
+    );
     Ok(())
 }
 
