@@ -1,7 +1,6 @@
 -- The answers of commands, from the script that they read and the file that they serve.
-use Rattle.std.proofs.Common.{◌≡◌, ℕ, ℤ, ◌<◌, ◌≤◌, true, false, List, [], ◌∷◌, length, Option, Some, None, Result, Ok, Err, refl, sym, ap, subst, ◌∙◌, cond, arith, ◌⊎◌, inl, inr}
-use Rattle.std.specs.Prelude.{is_some, nat_lt, Vec, IsErr}
-use Rattle.std.specs.Global.{Global}
+use Rattle.std.proofs.Common.{◌≡◌, ℕ, ◌≤◌, true, List, [], ◌∷◌, length, Option, Some, None, Ok, Err, refl, sym, ap, subst, ◌∙◌, cond, inl, inr}
+use Rattle.std.specs.Prelude.{is_some}
 use Rattle.std.proofs.lemmas.Bool.{le-ltb, lt-ltb}
 use Rattle.vx_base.specs.Openers.{OpenerState, AsksFor}
 use Rattle.vx_base.specs.Streams.{SourceState, SinkState}
@@ -10,7 +9,6 @@ use Rattle.vx_footer.specs.Opening.{vx_grammar}
 use Rattle.vx_file.specs.declared.step.Step.{Step}
 use Rattle.vx_file.specs.declared.served.Served.{Served}
 use Rattle.vx_write.specs.Column.{written}
-use Rattle.vx_main.specs.declared.answer.Answer.{Answer}
 use Rattle.vx_main.specs.declared.answer.Answer.TheVariants as answers
 use Rattle.vx_main.specs.declared.command.Command.{Command}
 use Rattle.vx_main.specs.declared.command.Command.TheVariants as commands
@@ -19,18 +17,17 @@ use Rattle.vx_main.specs.declared.commands.demo.Demo as demo
 use Rattle.vx_main.specs.declared.failure.Failure.{Failure}
 use Rattle.vx_main.specs.declared.failure.Failure.TheVariants as failures
 use Rattle.vx_main.specs.declared.input.TheConstants.{MOST_INPUT}
-use Rattle.vx_main.specs.Command.{names_of, reads_script, serve_hints}
+use Rattle.vx_main.specs.Command.{reads_script, serve_hints}
 use Rattle.vx_file.specs.Hints.{Hints, IsSizeOf}
 use Rattle.vx_main.specs.Demo.{Demonstrates, DemoCause}
-use Rattle.vx_main.specs.Failures.{HasCause, LeavesFiles}
+use Rattle.vx_main.specs.Failures.{LeavesFiles}
 use Rattle.vx_main.specs.Input.{ReadsScript, ScriptCause, BadLine, BadLength}
 use Rattle.vx_main.specs.Outputs.{IsTold, IsTrueSize, wanted_status, input_status, script_status, file_status, grammar_status}
 use Rattle.vx_main.specs.Outside.{outside}
 use Rattle.vx_main.specs.Reading.{settings_by, new_cache}
 use Rattle.vx_main.specs.Runs.{Gathers}
 use Rattle.vx_main.specs.Script.{script_of}
-use Rattle.vx_main.specs.Served.{FileCause, ServesFile, RefusesFile}
-use Rattle.vx_main.specs.Streams.{ReadToEnd, TooLong}
+use Rattle.vx_main.specs.Served.{FileCause}
 
 -- ---- the status of an input
 

@@ -1,14 +1,10 @@
 -- The text of a footer, line by line.
-use Rattle.std.proofs.Common.{◌≡◌, ℕ, List, [], ◌∷◌, ◌++◌, subst, Option}
+use Rattle.std.proofs.Common.{◌≡◌, ℕ, List, [], ◌∷◌, subst}
 use Rattle.std.specs.Prelude.{codes}
 use Rattle.std.specs.List.{flat_map}
 use Rattle.vx_base.specs.Streams.{SinkState}
-use Rattle.vx_base.specs.declared.segment.SegmentSpec.{SegmentSpec}
-use Rattle.vx_data.specs.Layout.{LayoutTree, dtype_of, rows_of}
-use Rattle.vx_data.specs.Texts.{dtype_text}
-use Rattle.vx_footer.specs.FileStats.{FileStats}
+use Rattle.vx_data.specs.Layout.{dtype_of, rows_of}
 use Rattle.vx_footer.specs.Footers.{FooterContent}
-use Rattle.vx_footer.specs.declared.postscript.PostscriptMetadata.{PostscriptMetadata}
 use Rattle.vx_main.specs.Render.{line, dtype_line, numbered, layout_lines, segment_line, stats_lines, array_line, meta_line, footer_text}
 use Rattle.vx_main.specs.Text.{TextState, Adds}
 use Rattle.vx_main.proofs.TextLemmas.{adds_then}

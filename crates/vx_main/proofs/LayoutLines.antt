@@ -1,7 +1,7 @@
 -- The lines of layouts, and how large layouts are.
 use Rattle.std.proofs.Common.{◌≡◌, ℕ, zero, suc, ◌+◌, ◌*◌, ◌<◌, ◌≤◌, List, [], ◌∷◌, ◌++◌, length, take, get_or, refl, sym, ap, ◌∙◌, arith, append_assoc, add-one}
 use Rattle.std.proofs.lemmas.List.{append-nil}
-use Rattle.vx_data.specs.Layout.{LayoutTree, node, Layouts, no_layouts, a_layout, layouts_of, children_of, kind_of, rows_of, segments_of, tree_size, trees_size}
+use Rattle.vx_data.specs.Layout.{LayoutTree, node, layouts_of, children_of, kind_of, rows_of, segments_of, tree_size, trees_size}
 use Rattle.vx_base.specs.Counts.{next_count}
 use Rattle.vx_main.specs.Render.{layout_line, layout_lines, layouts_lines}
 

@@ -1,5 +1,5 @@
 -- The cause of what was served from the file of a name, from the causes of its parts.
-use Rattle.std.proofs.Common.{◌≡◌, ℕ, ◌+◌, ◌≤◌, min, List, [], ◌∷◌, ◌++◌, true, Option, Some, Result, Ok, Err, ap, subst, ◌∙◌, arith, ◌⊎◌, inl, inr}
+use Rattle.std.proofs.Common.{◌≡◌, ℕ, ◌+◌, ◌≤◌, min, List, [], ◌∷◌, ◌++◌, Option, Some, Result, Ok, Err, ap, subst, ◌∙◌, arith, ◌⊎◌, inl, inr}
 use Rattle.std.specs.Prelude.{Vec}
 use Rattle.std.specs.Global.{Global}
 use Rattle.std.specs.Option.{option_map}
@@ -20,9 +20,9 @@ use Rattle.vx_file.specs.Serving.{ServedFrom, Plays, world_of, covered_by, asked
 use Rattle.vx_file.specs.Scripts.{bad_replies, cache_failures}
 use Rattle.vx_main.specs.declared.failure.Failure.{Failure}
 use Rattle.vx_main.specs.declared.failure.Failure.TheVariants as failures
-use Rattle.vx_main.specs.Input.{ReadsScript, ScriptCause, StepsCause}
+use Rattle.vx_main.specs.Input.{ScriptCause, StepsCause}
 use Rattle.vx_main.specs.Script.{script_of}
-use Rattle.vx_main.specs.Served.{ReaderCause, ReaderFault, FileCause, GivesBack, GaveBack, AskedAndBack, ServesFile, RefusesFile, LacksSize, LacksTail}
+use Rattle.vx_main.specs.Served.{ReaderCause, ReaderFault, FileCause, GivesBack, GaveBack, ServesFile, RefusesFile, LacksSize, LacksTail}
 use Rattle.vx_main.specs.Streams.{ReadToEnd}
 
 pub script-cause : (before now : SourceState) (text : List ℕ) (answer : Result (Vec Step Global) Failure) → ((t : List ℕ) → before.rest ≡ Some t → (text ≡ t) × ReadToEnd t now) → StepsCause text answer → ScriptCause before now answer

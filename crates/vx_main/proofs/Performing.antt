@@ -1,6 +1,5 @@
 -- What performing a command does, from its parse, its answer, and the writing of that.
-use Rattle.std.proofs.Common.{◌≡◌, ℕ, List, Option, Some, None, Result, Ok, Err, refl, sym, subst, ◌∙◌, ◌⊎◌, inl, inr}
-use Rattle.std.specs.Prelude.{is_some, true}
+use Rattle.std.proofs.Common.{◌≡◌, Option, Some, None, Ok, Err, refl, sym, subst, inl, inr}
 use Rattle.vx_base.specs.Openers.{OpenerState}
 use Rattle.vx_base.specs.Streams.{SinkState, SourceState}
 use Rattle.vx_base.specs.declared.fault.SinkError.{SinkError}
@@ -14,7 +13,7 @@ use Rattle.vx_main.specs.Command.{Parses}
 use Rattle.vx_main.specs.Failures.{HasCause, LeavesFiles}
 use Rattle.vx_main.specs.Outputs.{IsAnswer, text_of}
 use Rattle.vx_main.specs.Outside.{Outside, outside}
-use Rattle.vx_main.specs.Runs.{Answers, Gathers, Performs}
+use Rattle.vx_main.specs.Runs.{Gathers, Performs}
 use Rattle.vx_main.specs.Text.{Writes}
 
 leaves-same : (c : Command) (files : OpenerState) → LeavesFiles c files files

@@ -1,6 +1,6 @@
 -- What each status says, failure by failure.
-use Rattle.std.proofs.Common.{◌≡◌, ℕ, ◌+◌, ◌≤◌, ◌<◌, min, List, Option, Some, None, Result, Ok, Err, refl, sym, ap, subst, ◌∙◌, arith, ◌⊎◌, inl, inr}
-use Rattle.vx_base.specs.Counts.{Rises, last_count}
+use Rattle.std.proofs.Common.{◌≡◌, ℕ, Option, Some, None, Result, Ok, Err, refl, sym, subst, arith, ◌⊎◌, inl, inr}
+use Rattle.vx_base.specs.Counts.{Rises}
 use Rattle.vx_base.specs.Streams.{SinkState}
 use Rattle.vx_main.specs.declared.command.Command.{Command}
 use Rattle.vx_main.specs.declared.failure.Failure.{Failure}
@@ -9,7 +9,7 @@ use Rattle.vx_main.specs.Failures.{HasCause, status_of, message_of}
 use Rattle.vx_main.specs.Outputs.{wanted_status}
 use Rattle.vx_main.specs.Outside.{Outside, Steady}
 use Rattle.vx_main.specs.Runs.{Performs, Concludes, Fails, Reports, Runs, Prints}
-use Rattle.vx_main.specs.Statuses.{AllWell, Means, Says, Statuses}
+use Rattle.vx_main.specs.Statuses.{AllWell, Means, Statuses}
 
 -- a count that stands still did not rise
 stood : (before now : ℕ) → Steady before now → Rises 1 before now → ⊥

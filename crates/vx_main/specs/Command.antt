@@ -11,7 +11,7 @@ use Rattle.vx_main.specs.declared.failure.Failure.{Failure}
 use Rattle.vx_main.specs.declared.failure.Failure.TheVariants as failures
 use Rattle.vx_main.specs.Numbers.{value_of}
 use Rattle.vx_main.specs.Options.{OptionShape, once, are_options, values_of, optional_number}
-use Rattle.vx_main.specs.Reading.{ReadingValue, reading_of, settings_by, new_cache}
+use Rattle.vx_main.specs.Reading.{ReadingValue, reading_of}
 
 -- ---- names and values
 

@@ -2,7 +2,7 @@
 use Rattle.std.specs.Prelude.{◌≡◌, ℕ, true, List, [], ◌∷◌, ◌++◌, codes, decimal, Some, ◌⊎◌}
 use Rattle.vx_base.specs.Counts.{Rises}
 use Rattle.vx_base.specs.Openers.{OpenerState, AsksFor}
-use Rattle.vx_base.specs.Streams.{SinkState, SourceState, Took, TookPrefix}
+use Rattle.vx_base.specs.Streams.{SourceState, TookPrefix}
 use Rattle.vx_footer.specs.declared.error.OpenError.{OpenError}
 use Rattle.vx_sched.specs.declared.fault.Fault.{Fault}
 use Rattle.vx_sched.specs.declared.fault.Place.{Place}

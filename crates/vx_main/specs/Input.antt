@@ -1,5 +1,5 @@
 -- The script that an input spells.
-use Rattle.std.specs.Prelude.{◌≡◌, ℕ, true, false, List, [], Some, Result, Ok, Err, Vec}
+use Rattle.std.specs.Prelude.{◌≡◌, ℕ, List, Some, Result, Ok, Err, Vec}
 use Rattle.std.specs.Global.{Global}
 use Rattle.vx_base.specs.Counts.{Rises}
 use Rattle.vx_base.specs.Streams.{SourceState}

@@ -1,5 +1,5 @@
 -- What each command prints, and the status that it deserves.
-use Rattle.std.specs.Prelude.{◌≡◌, ℕ, ℤ, true, List, [], length, codes, Option, Some, None, is_some, Result, Ok, Err, nat_lt, if◌then◌else◌}
+use Rattle.std.specs.Prelude.{◌≡◌, ℕ, ℤ, true, List, length, codes, Option, Some, None, is_some, Result, Ok, Err, nat_lt, if◌then◌else◌}
 use Rattle.vx_base.specs.Openers.{AsksFor}
 use Rattle.vx_footer.specs.Opening.{vx_grammar}
 use Rattle.vx_file.specs.declared.step.Step.{Step}

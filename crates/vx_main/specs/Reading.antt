@@ -1,5 +1,5 @@
 -- How segments are read, as the words of a command say.
-use Rattle.std.specs.Prelude.{◌≡◌, ℕ, min, nat_le, Bool, true, false, ◌&&◌, ◌||◌, not, if◌then◌else◌, Option, Some, None, is_some}
+use Rattle.std.specs.Prelude.{◌≡◌, ℕ, min, nat_le, Bool, true, ◌&&◌, ◌||◌, not, if◌then◌else◌, Option, Some, None, is_some}
 use Rattle.vx_base.specs.Caches.{CacheState, nothing_held}
 use Rattle.vx_base.specs.Readers.{ReaderSettings}
 use Rattle.vx_source.specs.Keeping.{lru_state, new_lru}

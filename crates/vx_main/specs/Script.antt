@@ -1,5 +1,5 @@
 -- The script that a text spells: one step a line.
-use Rattle.std.specs.Prelude.{◌+◌, ◌*◌, ◌-◌, ◌^◌, ◌≡◌, ◌++◌, ℕ, Bool, false, ◌&&◌, length, codes, ◌==◌, nat_lt, if◌then◌else◌, List, [], ◌∷◌, Option, Some, None, Result, Ok, Err, Vec}
+use Rattle.std.specs.Prelude.{◌+◌, ◌^◌, ◌≡◌, ◌++◌, ℕ, codes, ◌==◌, nat_lt, if◌then◌else◌, List, [], ◌∷◌, Option, Some, None, Result, Ok, Err, Vec}
 use Rattle.std.specs.Str.{bytes_eq}
 use Rattle.std.specs.declared.alloc.Global.{Global}
 use Rattle.vx_main.specs.declared.script.ScriptError.{ScriptError}

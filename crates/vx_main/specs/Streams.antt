@@ -1,5 +1,5 @@
 -- What streams took and gave.
-use Rattle.std.specs.Prelude.{◌≡◌, ℕ, ◌+◌, ◌≤◌, ◌<◌, List, [], length, drop, Option, Some, Result, Ok, Err}
+use Rattle.std.specs.Prelude.{◌≡◌, ℕ, ◌+◌, ◌≤◌, ◌<◌, List, [], length, drop, Some, Result, Ok, Err}
 use Rattle.vx_base.specs.Counts.{Rises}
 use Rattle.vx_base.specs.Streams.{SourceState}
 use Rattle.vx_main.specs.declared.input.InputError.{InputError}

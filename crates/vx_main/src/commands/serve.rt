@@ -185,7 +185,7 @@ impl<'a> Serve<'a> {
         initial: Option<Option<u64>>,
         reading: Option<Reading>,
     ) -> Option<Serve<'a>>
-        ensures { result ≡ served_by name.entry size initial reading.entry }
+        ensures { result ≡ served_by name.entry size initial reading }
     {
         let size = size?;
         let initial = initial?.unwrap_or(0);

@@ -1,5 +1,5 @@
 use Rattle.std.proofs.Common.{rules, ◌≡◌, ◌∷◌, ◌∙◌, sym}
-use Rattle.vx_main.proofs.OptionLemmas.{IsNext, shorter, options_next, options_other, options_short}
+use Rattle.vx_main.proofs.OptionLemmas.{IsNext, options_next, options_other, options_short}
 use Rattle.vx_main.proofs.options.are_options.Goals as goal
 
 pub returns-then-count-others : goal.returns-then-count-others

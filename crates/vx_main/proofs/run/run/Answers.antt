@@ -1,4 +1,4 @@
-use Rattle.std.proofs.Common.{◌≡◌, Ok, Err, refl, map}
+use Rattle.std.proofs.Common.{Err, map}
 use Rattle.std.specs.Prelude.{string_bytes}
 use Rattle.vx_main.specs.Command.{command_of}
 use Rattle.vx_main.specs.Outside.{outside}

@@ -1,4 +1,4 @@
-use Rattle.std.proofs.Common.{arith, ◌∙◌, ℕ, ◌+◌, min, ◌∷◌, [], ◌++◌, List, Option, ap, sym}
+use Rattle.std.proofs.Common.{arith, ◌∙◌, ℕ, ◌+◌, min, ◌∷◌, [], ◌++◌, List, Option, ap}
 use Rattle.std.specs.Option.{option_map}
 use Rattle.vx_base.specs.Asking.{Log}
 use Rattle.vx_base.specs.Counts.{last_count}

@@ -1,6 +1,4 @@
-use Rattle.std.proofs.Common.{subst}
-use Rattle.std.specs.Prelude.{[]}
-use Rattle.vx_main.proofs.HexLemmas.{Spelled, spelled-none, spelled-more, spelled-all}
+use Rattle.vx_main.proofs.HexLemmas.{spelled-none, spelled-more}
 use Rattle.vx_main.proofs.print.words.put_hex.Goals as goal
 
 pub loop-rest-init : goal.loop-rest-init
