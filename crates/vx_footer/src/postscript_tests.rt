@@ -34,7 +34,7 @@ fn with_keys(alloc: Global, keys: &[String]) -> Result<Postscript, Fail> {
 fn key_of(alloc: Global, size: usize, number: usize) -> Result<String, Fail> {
     let end = format!(in alloc; "{number}")?;
     let mut key = String::new(alloc);
-    while key.as_str().len() + end.as_str().len() < size {
+    for _filled in 0..size.saturating_sub(end.as_str().len()) {
         key.push_str("k")?;
     }
     key.push_str(end.as_str())?;
@@ -75,10 +75,14 @@ fn writes_and_refuses_postscripts(rt: HostRuntime) -> Result<(), Fail> {
         }
         assert_eq!(rt; told(alloc, &keys, version)?.as_str(), answer);
     }
-    let mut keys = vec![in alloc; key_of(alloc, 2, 7)?, key_of(alloc, 2, 7)?]?;
+    let mut keys = Vec::new(alloc);
+    keys.push(key_of(alloc, 2, 7)?)?;
+    keys.push(key_of(alloc, 2, 7)?)?;
     assert_eq!(rt; told(alloc, &keys, v1)?.as_str(), "DuplicateKey");
+    let mut keys = Vec::new(alloc);
+    keys.push(key_of(alloc, 2, 7)?)?;
     keys.push(String::new(alloc))?;
-    keys.swap(1, 2);
+    keys.push(key_of(alloc, 2, 7)?)?;
     assert_eq!(rt; told(alloc, &keys, v1)?.as_str(), "EmptyKey");
     Ok(())
 }

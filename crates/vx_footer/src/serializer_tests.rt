@@ -2,7 +2,7 @@ use super::tests::{TAIL, file, read};
 use super::*;
 use std::alloc::Global;
 use std::test::*;
-use vx_base::{Alignment, ByteBuffer};
+use vx_base::ByteBuffer;
 use vx_data::LayoutContext;
 
 // What writes the footer of the file of four numbers.
@@ -20,17 +20,6 @@ fn joined(alloc: Global, buffers: &[ByteBuffer]) -> Result<Vec<u8>, Fail> {
     Ok(bytes)
 }
 
-fn value(
-    alloc: Global,
-    key: &str,
-    bytes: &[u8],
-    exponent: u8,
-) -> Result<(String, ByteBuffer), Fail> {
-    let held = Vec::from_slice(alloc, bytes)?;
-    let buffer = ByteBuffer::from_vec(alloc, held, Alignment::new(exponent)?)?;
-    Ok((String::from_str(alloc, key)?, buffer))
-}
-
 #[test]
 fn writes_a_footer_again(rt: HostRuntime) -> Result<(), Fail> {
     let alloc = rt.alloc();
@@ -41,28 +30,9 @@ fn writes_a_footer_again(rt: HostRuntime) -> Result<(), Fail> {
     let latest = serializer(alloc)?.with_version(FileVersion::V2);
     let bytes = joined(alloc, &latest.with_exclude_dtype(false).serialize(alloc)?)?;
     assert_eq!(rt; bytes.get(415), Some(&2));
-    Ok(())
-}
-
-#[test]
-fn writes_metadata_in_order(rt: HostRuntime) -> Result<(), Fail> {
-    let alloc = rt.alloc();
-    let values = vec![in alloc; value(alloc, "b", &[1, 2], 3)?, value(alloc, "a", &[3], 0)?]?;
-    let written = serializer(alloc)?
-        .with_metadata_segments(values)
-        .serialize_with_metadata(alloc)?;
-    let mut bytes = vec![in alloc; 0; 26]?;
-    bytes.extend_from_slice(joined(alloc, &written.buffers)?.as_slice())?;
-    assert_eq!(rt;
-        bytes.get(26..34).ok_or("short")?,
-        [3, 0, 0, 0, 0, 0, 1, 2].as_slice()
-    );
-    assert_eq!(rt; written.approx_byte_size, bytes.len() - 34);
-    assert_eq!(rt; written.metadata.len(), 2);
-    let read = read(alloc, bytes.as_slice())?.ok_or("no footer")?;
-    let place = read.metadata_segment("b").ok_or("no entry")?;
-    assert_eq!(rt; (place.offset, place.length), (32, 2));
-    assert_eq!(rt; read.metadata().len(), written.footer.metadata().len());
+    let written = serializer(alloc)?.serialize_with_metadata(alloc)?;
+    assert_eq!(rt; written.approx_byte_size, TAIL.len());
+    assert_eq!(rt; written.metadata.len(), 0);
     Ok(())
 }
 
@@ -81,8 +51,5 @@ fn refuses_footers(rt: HostRuntime) -> Result<(), Fail> {
         refused.serialize(alloc).err(),
         Some(WriteError::OffsetOverflow)
     );
-    let values = vec![in alloc; value(alloc, "", &[], 0)?]?;
-    let refused = serializer(alloc)?.with_metadata_segments(values);
-    assert_eq!(rt; refused.serialize(alloc).err(), Some(WriteError::EmptyKey));
     Ok(())
 }
