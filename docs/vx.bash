@@ -3,11 +3,13 @@ _vx() {
     local word=${COMP_WORDS[COMP_CWORD]}
     COMPREPLY=()
     if [ "$COMP_CWORD" -eq 1 ]; then
-        mapfile -t COMPREPLY < <(compgen -W 'serve demo --help --version' -- "$word")
-    elif [ "$COMP_CWORD" -eq 2 ] && [ "${COMP_WORDS[1]}" = serve ]; then
+        mapfile -t COMPREPLY < <(compgen -W 'serve sizes demo --help --version' -- "$word")
+    elif [ "$COMP_CWORD" -eq 2 ] && [[ ${COMP_WORDS[1]} == @(serve|sizes) ]]; then
         mapfile -t COMPREPLY < <(compgen -f -- "$word")
     elif [ "${COMP_WORDS[1]}" = serve ] && [[ ${COMP_WORDS[COMP_CWORD - 1]} != --* ]]; then
-        mapfile -t COMPREPLY < <(compgen -W '--size --initial --distance --max --reads --cache' -- "$word")
+        mapfile -t COMPREPLY < <(compgen -W '--size --initial --dtype --distance --max --reads --cache' -- "$word")
+    elif [ "$COMP_CWORD" -eq 3 ] && [ "${COMP_WORDS[1]}" = sizes ]; then
+        mapfile -t COMPREPLY < <(compgen -W '--dtype' -- "$word")
     fi
 }
 complete -o filenames -F _vx vx ./vx

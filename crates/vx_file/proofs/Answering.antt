@@ -1,30 +1,27 @@
 -- The replies to a script, step by step.
-use Rattle.std.proofs.Common.{◌≡◌, ℕ, ◌+◌, ◌<◌, ◌≤◌, Bool, true, false, List, [], ◌∷◌, ◌++◌, length, map, drop, get_or, Option, Some, None, Result, Ok, Err, refl, sym, ap, subst, ◌∙◌, arith, append_assoc, drop-cons, add-one, ◌⊎◌, inl, inr}
+use Rattle.std.proofs.Common.{◌≡◌, ℕ, ◌+◌, ◌<◌, ◌≤◌, List, [], ◌∷◌, ◌++◌, length, length-append, drop, get_or, Option, Some, Result, Ok, Err, refl, sym, ap, subst, ◌∙◌, arith, append_assoc, drop-cons, add-one, inl}
 use Rattle.std.proofs.lemmas.List.{append-nil, drop_all}
 use Rattle.std.specs.Prelude.{OnErr}
-use Rattle.vx_base.specs.Asking.{Log, ranges_of}
+use Rattle.vx_base.specs.Asking.{Log}
 use Rattle.vx_base.specs.Caches.{CacheState, SameCache}
 use Rattle.vx_base.specs.Counts.{Rises}
 use Rattle.vx_base.specs.Readers.{ReaderState}
-use Rattle.vx_sched.specs.Scheduling.{MergesInTurn, replay}
-use Rattle.vx_sched.specs.Span as sched
+use Rattle.vx_sched.specs.Scheduling.{MergesInTurn}
 use Rattle.vx_source.specs.Asks.{Grew, asked_by, bad_spans}
 use Rattle.vx_source.specs.Bytes.{HasBytes, TellsSlices, IsTrueReply}
 use Rattle.vx_source.specs.Drives.{StopsDrive}
-use Rattle.vx_source.specs.Events.{events}
 use Rattle.vx_source.specs.Fits.{World, IsRow}
-use Rattle.vx_source.specs.History.{Got, neither, Deed, registers, polls, drops, drives, stops, Moment, moment, spans_in}
+use Rattle.vx_source.specs.History.{Got, neither, registers, polls, drops, drives, stops, Moment, moment, spans_in}
 use Rattle.vx_source.specs.Kept.{Kept}
 use Rattle.vx_source.specs.Puts.{PutsBy}
 use Rattle.vx_source.specs.Stands.{Stands, IsNext, Registers}
-use Rattle.vx_source.specs.declared.reply.FailCause.TheVariants.{Fault, Cache}
 use Rattle.vx_source.specs.declared.reply.Reply.{Reply}
 use Rattle.vx_source.specs.declared.reply.Reply.TheVariants.{Registered, MissingSegment, Ready, Pending, Failed, Dropped, NotLive, Driven}
 use Rattle.vx_source.specs.declared.span.Span.{Span}
 use Rattle.vx_source.proofs.DriveLemmas.{grew-none, grew-then, rises-then}
 use Rattle.vx_file.specs.declared.step.Step.{Step}
 use Rattle.vx_file.specs.declared.step.Step.TheVariants.{Register, Poll, Drop, Drive}
-use Rattle.vx_file.specs.Scripts.{deed_of, step_in, steps_of, replies_of, Fits, asked_for, bad_replies, IsTrue, AreTrue, Touches, Leads, Stops}
+use Rattle.vx_file.specs.Scripts.{deed_of, step_in, steps_of, replies_of, asked_for, bad_replies, IsTrue, Stops}
 use Rattle.vx_file.specs.Steps.{Asks, IsAnswered, StaysTrue, StopsStep, Answering}
 
 -- ---- what is asked
@@ -180,6 +177,7 @@ module _ (w : World) (script : List Step) (first : Kept) where
     history = [];
     split = refl;
     replies_are = refl;
+    one_each = omega arith;
     fits = tt;
     leads = refl;
     stands = st;
@@ -195,6 +193,7 @@ module _ (w : World) (script : List Step) (first : Kept) where
       history = moment (deed_of step a.got) reply ∷ h.history;
       split = append_assoc (steps_of h.history) (step_in (deed_of step a.got)) rest ∙ ap (λ l. steps_of h.history ++ (l ++ rest)) (step-deed step a.got) ∙ h.split;
       replies_are = ap (λ l. l ++ reply ∷ []) h.replies_are;
+      one_each = let before = h.one_each in let long = length-append replies (reply ∷ []) in omega (arith, before, long);
       fits = (a.row, h.fits);
       leads = (cache_now, h.leads, a.touches, same);
       stands = a.stands;

@@ -1,13 +1,11 @@
 -- The covered segments, as the cache is given them.
-use Rattle.std.proofs.Common.{◌≡◌, ℕ, zero, suc, ◌+◌, ◌-◌, ◌^◌, ◌<◌, ◌≤◌, Bool, true, false, cond, List, [], ◌∷◌, ◌++◌, length, take, drop, get_or, Option, Some, None, Result, Ok, Err, refl, sym, ap, subst, ◌∙◌, arith, min, add-one, drop-cons, ◌⊎◌, inl, inr}
-use Rattle.std.specs.Prelude.{OnOk, slice_get, nat_le, All}
+use Rattle.std.proofs.Common.{◌≡◌, ℕ, zero, suc, ◌+◌, ◌-◌, ◌^◌, ◌<◌, ◌≤◌, Bool, true, false, cond, List, [], ◌∷◌, length, take, drop, get_or, Some, Result, Ok, Err, refl, sym, ap, subst, ◌∙◌, arith, min, add-one, drop-cons, inl, inr}
+use Rattle.std.specs.Prelude.{OnOk, slice_get, nat_le}
 use Rattle.std.proofs.lemmas.Bool.Decides.{nat_tests}
-use Rattle.std.proofs.lemmas.Bool.{leb-true}
-use Rattle.std.proofs.lemmas.List.{append-nil, drop_all}
+use Rattle.std.proofs.lemmas.List.{drop_all}
 use Rattle.vx_base.specs.Buffer.{Buffer, bytes_at}
 use Rattle.vx_base.specs.Caches.{CacheState, PutCause, Segments}
 use Rattle.vx_base.specs.declared.segment.SegmentSpec.{SegmentSpec}
-use Rattle.vx_base.specs.declared.segment.SegmentId.{SegmentId}
 use Rattle.vx_base.specs.declared.segment_cache.CacheError.{CacheError}
 use Rattle.vx_source.specs.Bytes.{IsSlice, IsEnd, TellsSlices}
 use Rattle.vx_source.specs.Puts.{Gains, IsPut}

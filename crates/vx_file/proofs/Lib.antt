@@ -2,4 +2,5 @@ pub mod Answering
 pub mod Covering
 pub mod Looking
 pub mod Openings
+pub mod Opens
 pub mod Serves

@@ -1,5 +1,5 @@
 -- What a tail tells, as the answer of a look.
-use Rattle.std.specs.Prelude.{◌≡◌, Result, Err}
+use Rattle.std.specs.Prelude.{Result, Err}
 use Rattle.vx_footer.specs.declared.deserializer.DeserializeStep.{DeserializeStep}
 use Rattle.vx_footer.specs.declared.error.OpenError.{OpenError}
 use Rattle.vx_footer.specs.declared.error.OpenError.TheVariants.{TooSmall, BadMagic, BadVersion, PostscriptTooLong, BadTable, Unsupported, TooManyMetadata, EmptyKey, LongKey, DuplicateKey, BadAlignment, MissingDType, BufferTooLong, OutOfBounds, StatsCount, PastEnd, UnknownEncoding, Unordered, OutOfMemory}

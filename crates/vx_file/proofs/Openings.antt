@@ -1,5 +1,5 @@
 -- The tail of a file has all tables, and tells its footer.
-use Rattle.std.proofs.Common.{◌≡◌, ℕ, ◌+◌, ◌-◌, ◌<◌, ◌≤◌, Bool, true, false, cond, List, [], ◌∷◌, ◌++◌, length, map, take, drop, refl, sym, ap, subst, ◌∙◌, arith, Option, Some, None, Result, Ok, Err, ◌⊎◌, inl, inr, length-append, length-drop}
+use Rattle.std.proofs.Common.{◌≡◌, ℕ, ◌+◌, ◌-◌, ◌<◌, ◌≤◌, Bool, true, false, cond, List, [], ◌∷◌, ◌++◌, length, map, take, drop, refl, sym, ap, subst, ◌∙◌, arith, Option, Some, None, Result, Ok, Err, ◌⊎◌, inl, inr, length-append}
 use Rattle.std.specs.Prelude.{nat_le, nat_lt, min, All, IfNone}
 use Rattle.std.specs.List.{list_all}
 use Rattle.std.proofs.lemmas.Bool.Decides.{nat_tests}
@@ -9,7 +9,6 @@ use Rattle.std.proofs.lemmas.List.Sums.{AllPass-from_list_all}
 use Rattle.vx_base.specs.Asking.{Log, GrewOrStayed, ranges_of}
 use Rattle.vx_base.specs.Buffer.{bytes_at}
 use Rattle.vx_base.specs.Checks.{◌>>=◌, ◌unless◌}
-use Rattle.vx_base.specs.Counts.{Rises}
 use Rattle.vx_base.specs.Readers.{ReaderState}
 use Rattle.vx_base.specs.declared.answer.ReadAtRequest.{ReadAtRequest}
 use Rattle.vx_base.specs.declared.segment.SegmentSpec.{SegmentSpec}
@@ -25,10 +24,10 @@ use Rattle.vx_footer.specs.Footers.{FooterContent, segment_table}
 use Rattle.vx_footer.specs.Opening.{tail_checks, least_offset, table_bytes, table_checks, ends_within, EndsWithin, extent_check, footer_of, vx_grammar}
 use Rattle.vx_footer.specs.Steps.{done_step, tables_step, step_of, file_step, IsSuffix, HasEnd, asks_bytes}
 use Rattle.vx_footer.proofs.Seen.{step-seen, long_has_end, nat_le-is, was_asked, no_second_request}
-use Rattle.vx_file.specs.declared.opening.Opening.{Opening}
 use Rattle.vx_source.specs.declared.tail.Tail.{Tail}
 use Rattle.vx_source.specs.Asks.{Grew}
-use Rattle.vx_file.specs.Hints.{Hints, first_length}
+use Rattle.vx_file.specs.Hints.{Hints}
+use Rattle.vx_file.specs.Plans.{tail_plan}
 use Rattle.vx_file.specs.Ranges.{first_start, reached, tail_start, range_before, tail_ranges, opening_range, opened}
 use Rattle.vx_file.specs.Serving.{RefusedFrom, SizeFault, TailFault, StopsOpening, faulty}
 use Rattle.vx_file.specs.declared.served.ServeError.{ServeError}
@@ -136,7 +135,7 @@ first-grew : (hints : Hints) (file : List ℕ) (before now : ReaderState) (t : T
 first-grew hints file before now t h = subst (λ rs. Grew (opened rs) before.log now.log) (first-asked hints file t h.tail) h.asked
 
 -- a file that the first range refuses
-pub first-refused : (hints : Hints) (file : List ℕ) (before now : ReaderState) (t : Tail) (e : OpenError) → FirstRead hints file before now t → tail_step hints t ≡ Err e → RefusedFrom hints file before now e
+pub first-refused : (hints : Hints) (file : List ℕ) (before now : ReaderState) (t : Tail) (e : OpenError) → FirstRead hints file before now t → tail_step hints t ≡ Err e → RefusedFrom (tail_plan hints file) before now e
 first-refused hints file before now t e h is =
     let says = tail-says hints file (first_start hints (length file)) t (Err e) h.tail (omega arith) is in
     record {
@@ -157,7 +156,7 @@ first-whole hints file before now t f h is =
     }
 
 -- memory ran out behind the first range
-pub first-stops : (hints : Hints) (file : List ℕ) (before now : ReaderState) (t : Tail) → FirstRead hints file before now t → StopsOpening hints file before now
+pub first-stops : (hints : Hints) (file : List ℕ) (before now : ReaderState) (t : Tail) → FirstRead hints file before now t → StopsOpening (tail_plan hints file) before now
 first-stops hints file before now t h = record {
   gained = opened (first_range hints file ∷ []);
   rest = map opening_range (range_before (tail_start hints file) (first_start hints (length file)));
@@ -169,13 +168,13 @@ some_asked : (ranges : List ReadAtRequest) (r : ReadAtRequest) (more : List Read
 some_asked ranges r more h = elim h [ inl none ↦ (r ∷ more, ap (λ rs. rs ++ (r ∷ more)) (sym none)) | inr one ↦ (more, ap (λ rs. rs ++ more) (sym one)) ]
 
 -- memory ran out in the first range
-pub asking-first-stops : (hints : Hints) (file : List ℕ) (before now : ReaderState) → GrewOrStayed (opening_range (first_range hints file) ∷ []) before.log now.log → StopsOpening hints file before now
+pub asking-first-stops : (hints : Hints) (file : List ℕ) (before now : ReaderState) → GrewOrStayed (opening_range (first_range hints file) ∷ []) before.log now.log → StopsOpening (tail_plan hints file) before now
 asking-first-stops hints file before now h =
     let some = some_asked (ranges_of h.more) (opening_range (first_range hints file)) (map opening_range (range_before (tail_start hints file) (first_start hints (length file)))) h.asked in
     record { gained = h.more; rest = some.0; ranges = some.1; grew = h.grew }
 
 -- the first range failed
-pub first-fails : (hints : Hints) (file : List ℕ) (before now : ReaderState) (fault : Fault) → SizeFault hints before now fault ⊎ RangeFault (first_range hints file).0 (first_range hints file).1 before now fault → SizeFault hints before now fault ⊎ TailFault hints file before now fault
+pub first-fails : (hints : Hints) (file : List ℕ) (before now : ReaderState) (fault : Fault) → SizeFault (tail_plan hints file) before now fault ⊎ RangeFault (first_range hints file).0 (first_range hints file).1 before now fault → SizeFault (tail_plan hints file) before now fault ⊎ TailFault (tail_plan hints file) before now fault
 first-fails hints file before now fault h = elim h [
   | inl size ↦ inl size
   | inr range ↦ inr (record {
@@ -224,7 +223,7 @@ second-read hints file before mid now t tail offset len h is read =
     }
 
 pub second-fails : (hints : Hints) (file : List ℕ) (before mid now : ReaderState) (t : Tail) (offset len : ℕ) (fault : Fault) → FirstRead hints file before mid t → tail_step hints t ≡ Ok (NeedMoreData offset len) → RangeFault offset len mid now fault
-    → TailFault hints file before now fault
+    → TailFault (tail_plan hints file) before now fault
 second-fails hints file before mid now t offset len fault h is failed =
     let s = second hints file before mid t offset len h is in
     record {
@@ -237,7 +236,7 @@ second-fails hints file before mid now t offset len fault h is failed =
     }
 
 pub second-stops : (hints : Hints) (file : List ℕ) (before mid now : ReaderState) (t : Tail) (offset len : ℕ) → FirstRead hints file before mid t → tail_step hints t ≡ Ok (NeedMoreData offset len)
-    → GrewOrStayed (opening_range (offset, len) ∷ []) mid.log now.log → StopsOpening hints file before now
+    → GrewOrStayed (opening_range (offset, len) ∷ []) mid.log now.log → StopsOpening (tail_plan hints file) before now
 second-stops hints file before mid now t offset len h is stopped =
     let s = second hints file before mid t offset len h is in
     let some = some_asked (ranges_of stopped.more) (opening_range (offset, len)) [] stopped.asked in

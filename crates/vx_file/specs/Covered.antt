@@ -1,5 +1,5 @@
 -- The segments that the tail covers, and what a cache is given of them.
-use Rattle.std.specs.Prelude.{ℕ, ◌+◌, ◌^◌, nat_le, List, [], ◌∷◌, ◌++◌, take, if◌then◌else◌}
+use Rattle.std.specs.Prelude.{ℕ, ◌+◌, ◌^◌, nat_le, List, [], ◌∷◌, ◌++◌, take, if◌then◌else◌, Option, Some, None}
 use Rattle.vx_base.specs.Buffer.{Buffer, bytes_at}
 use Rattle.vx_base.specs.Caches.{Segments}
 use Rattle.vx_base.specs.declared.segment.SegmentSpec.{SegmentSpec}
@@ -21,3 +21,8 @@ covered_after file start number (s ∷ rest) = covered_put file start number s +
 -- the covered segments of a table, whose numbers have 32 bits
 abbrev pub covered_segments : List ℕ → ℕ → List SegmentSpec → Segments
 covered_segments file start table = covered_after file start 0 (take (2 ^ 32) table)
+
+-- the segments that a tail covers, if one was read
+abbrev pub covered_from : List ℕ → Option ℕ → List SegmentSpec → Segments
+covered_from file None table = []
+covered_from file (Some start) table = covered_segments file start table

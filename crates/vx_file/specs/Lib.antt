@@ -2,6 +2,8 @@ pub mod Covered
 pub mod Hints
 pub mod Logs
 pub mod Memory
+pub mod Opened
+pub mod Plans
 pub mod Ranges
 pub mod Scripts
 pub mod Serving

@@ -3,7 +3,6 @@ use Rattle.std.specs.Prelude.{◌≡◌, ℕ, ◌+◌, ◌≤◌, List, [], ◌�
 use Rattle.std.specs.List.{flat_map}
 use Rattle.vx_base.specs.Asking.{Log, ranges_of}
 use Rattle.vx_base.specs.Caches.{CacheState, SameCache}
-use Rattle.vx_base.specs.Counts.{Rises}
 use Rattle.vx_sched.specs.Io.{request_of}
 use Rattle.vx_sched.specs.Scheduling.{MergesInTurn, replay}
 use Rattle.vx_sched.specs.Span as sched
@@ -13,7 +12,7 @@ use Rattle.vx_source.specs.Caching.{HasGot}
 use Rattle.vx_source.specs.Events.{events}
 use Rattle.vx_source.specs.Fits.{World, IsRow, asks}
 use Rattle.vx_source.specs.History.{Got, Deed, registers, polls, drops, drives, stops, Moment, spans_in}
-use Rattle.vx_source.specs.Puts.{Gains, PutsBy, put_by}
+use Rattle.vx_source.specs.Puts.{PutsBy, put_by}
 use Rattle.vx_source.specs.declared.reply.FailCause.TheVariants.{Cache}
 use Rattle.vx_source.specs.declared.reply.Reply.{Reply}
 use Rattle.vx_source.specs.declared.reply.Reply.TheVariants.{Failed}
@@ -111,6 +110,7 @@ put_in (m ∷ past) = put_in past ++ put_by past (spans_in m.reply)
 pub record Answers (w : World) (script : List Step) (replies : List Reply) (history : List Moment) : Type 0 where
   pub steps_are : steps_of history ≡ script
   pub replies_are : replies_of history ≡ replies
+  pub one_each : length replies ≡ length script
   pub fits : Fits w history
 
 -- A script was stopped by want of memory: some of its steps were answered, and then perhaps a drive that stopped. The

@@ -1,10 +1,10 @@
 -- What serving a script from a file gives.
-use Rattle.std.specs.Prelude.{◌≡◌, ℕ, ◌<◌, true, List, [], ◌∷◌, ◌++◌, length, map, Option, Some, None, Result, Ok, Err, IsOk, ◌⊎◌}
+use Rattle.std.specs.Prelude.{◌≡◌, ℕ, ◌<◌, true, List, [], ◌∷◌, ◌++◌, map, Option, Some, Result, Ok, Err, IsOk, ◌⊎◌}
 use Rattle.vx_base.specs.Asking.{Log, ranges_of}
 use Rattle.vx_base.specs.Buffer.{Buffer}
 use Rattle.vx_base.specs.Caches.{Segments, CacheState}
 use Rattle.vx_base.specs.Counts.{Rises, last_count}
-use Rattle.vx_base.specs.Readers.{ReaderState, ReaderSettings, settings_of}
+use Rattle.vx_base.specs.Readers.{ReaderState, settings_of}
 use Rattle.vx_base.specs.declared.answer.Asked.{Asked}
 use Rattle.vx_base.specs.declared.answer.ReadAtRequest.{ReadAtRequest}
 use Rattle.vx_base.specs.declared.segment.SegmentId.{SegmentId}
@@ -12,8 +12,7 @@ use Rattle.vx_base.specs.declared.segment_cache.CacheError.{CacheError}
 use Rattle.vx_base.specs.declared.segment_cache.CacheError.TheVariants as cache_error
 use Rattle.vx_footer.specs.declared.error.OpenError.{OpenError}
 use Rattle.vx_footer.specs.declared.error.OpenError.TheVariants as checks
-use Rattle.vx_footer.specs.Footers.{FooterContent, segment_table}
-use Rattle.vx_footer.specs.Opening.{vx_grammar}
+use Rattle.vx_footer.specs.Footers.{FooterContent}
 use Rattle.vx_sched.specs.Outcomes.{size_fault}
 use Rattle.vx_sched.specs.declared.fault.Fault.{Fault}
 use Rattle.vx_sched.specs.declared.fault.Place.TheVariants.{Range}
@@ -22,24 +21,15 @@ use Rattle.vx_source.specs.Bytes.{TellsSlices}
 use Rattle.vx_source.specs.Fits.{World}
 use Rattle.vx_source.specs.History.{Moment}
 use Rattle.vx_source.specs.Puts.{Gains}
-use Rattle.vx_source.specs.Stands.{world}
 use Rattle.vx_source.specs.declared.reply.Reply.{Reply}
 use Rattle.vx_file.specs.declared.step.Step.{Step}
 use Rattle.vx_file.specs.declared.served.Served.{Served}
 use Rattle.vx_file.specs.declared.served.ServeError.{ServeError}
 use Rattle.vx_file.specs.declared.served.ServeError.TheVariants as errors
-use Rattle.vx_file.specs.Covered.{covered_segments}
 use Rattle.vx_file.specs.Hints.{Hints}
-use Rattle.vx_file.specs.Ranges.{tail_start, tail_ranges, opening_range, opened}
+use Rattle.vx_file.specs.Plans.{Plan, plan_of, world_of, covered_by}
+use Rattle.vx_file.specs.Ranges.{opening_range, opened}
 use Rattle.vx_file.specs.Scripts.{Answers, AreTrue, Leads, Stops, asked_for, bad_replies, cache_failures, put_in}
-
--- what the replies are about: the segment table, where the tail begins, and the settings of the reader
-abbrev pub world_of : Hints → List ℕ → FooterContent → ReaderSettings → World
-world_of hints file footer settings = world (segment_table footer) settings.distance settings.max_read_size settings.concurrency (Some (tail_start hints file))
-
--- the segments that the tail of a file covers
-abbrev pub covered_by : Hints → List ℕ → FooterContent → Segments
-covered_by hints file footer = covered_segments file (tail_start hints file) (segment_table footer)
 
 -- the numbers of segments' buffers
 abbrev pub numbers_of : Segments → List ℕ
@@ -71,72 +61,75 @@ asked s = opened s.opening ++ asked_for s.replies
 
 -- A script was served from a file: the footer is that of the grammar, a history answers the script, one reply for each
 -- step, and the reader was asked exactly for the ranges of opening and of the drives.
-pub record ServedFrom (hints : Hints) (file : List ℕ) (script : List Step) (before now : ReaderState) (cache cache_now : CacheState) (s : Served) : Type 0 where
-  pub footer : vx_grammar file hints.dtype ≡ Ok s.footer.content
-  pub opening : s.opening ≡ tail_ranges hints file
-  pub plays : Plays (world_of hints file s.footer.content (settings_of before)) file (covered_by hints file s.footer.content) script cache cache_now s.replies
+pub record ServedFrom (plan : Plan) (file : List ℕ) (script : List Step) (before now : ReaderState) (cache cache_now : CacheState) (s : Served) : Type 0 where
+  pub footer : plan.footer ≡ Ok s.footer.content
+  pub opening : s.opening ≡ plan.ranges
+  pub plays : Plays (world_of plan s.footer.content (settings_of before)) file (covered_by plan file s.footer.content) script cache cache_now s.replies
   pub asked : Grew (asked s) before.log now.log
   pub bad : Rises (bad_replies s.replies) before.faults now.faults
 
 -- a file was refused by the name of the first check that it fails, and the reader was asked for the opening ranges alone
-pub record RefusedFrom (hints : Hints) (file : List ℕ) (before now : ReaderState) (e : OpenError) : Type 0 where
-  pub fails : vx_grammar file hints.dtype ≡ Err e
-  pub asked : Grew (opened (tail_ranges hints file)) before.log now.log
+pub record RefusedFrom (plan : Plan) (before now : ReaderState) (e : OpenError) : Type 0 where
+  pub fails : plan.footer ≡ Err e
+  pub asked : Grew (opened plan.ranges) before.log now.log
 
 -- a range with the mark of a fault
 abbrev pub faulty : ℕ × ℕ → Fault → Asked
 faulty r fault = record { range = opening_range r; mark = Some fault.kind }
 
--- a fault of the size call, which asks no range and is made where no size is supplied
-pub record SizeFault (hints : Hints) (before now : ReaderState) (fault : Fault) : Type 0 where
-  pub unknown : hints.size ≡ None
+-- a fault of the size call, which asks no range
+pub record SizeFault (plan : Plan) (before now : ReaderState) (fault : Fault) : Type 0 where
+  pub asks : plan.asks_size ≡ true
   pub is : fault ≡ size_fault
   pub asked : Grew [] before.log now.log
 
 -- a fault of an opening range, with its mark: those before it got their bytes
-pub record TailFault (hints : Hints) (file : List ℕ) (before now : ReaderState) (fault : Fault) : Type 0 where
+pub record TailFault (plan : Plan) (before now : ReaderState) (fault : Fault) : Type 0 where
   pub front : List (ℕ × ℕ)
   pub range : ℕ × ℕ
   pub rest : List (ℕ × ℕ)
-  pub ranges : tail_ranges hints file ≡ front ++ range ∷ rest
+  pub ranges : plan.ranges ≡ front ++ range ∷ rest
   pub place : fault.place ≡ Range range.0 range.1
   pub asked : Grew (opened front ++ faulty range fault ∷ []) before.log now.log
 
 -- the cache failed a put of a covered segment, after a file of the grammar was opened
-pub record CacheRefused (hints : Hints) (file : List ℕ) (before now : ReaderState) : Type 0 where
-  pub grammar : IsOk (vx_grammar file hints.dtype)
-  pub asked : Grew (opened (tail_ranges hints file)) before.log now.log
+pub record CacheRefused (plan : Plan) (before now : ReaderState) : Type 0 where
+  pub grammar : IsOk plan.footer
+  pub asked : Grew (opened plan.ranges) before.log now.log
 
 -- ---- what stands after want of memory
 
 -- memory ran out while the file was opened: some of its opening ranges were asked, in order, with any marks
-pub record StopsOpening (hints : Hints) (file : List ℕ) (before now : ReaderState) : Type 0 where
+pub record StopsOpening (plan : Plan) (before now : ReaderState) : Type 0 where
   pub gained : Log
   pub rest : List ReadAtRequest
-  pub ranges : map opening_range (tail_ranges hints file) ≡ ranges_of gained ++ rest
+  pub ranges : map opening_range plan.ranges ≡ ranges_of gained ++ rest
   pub grew : Grew gained before.log now.log
 
 -- memory ran out after the file was opened: the steps before were answered, and at most one block more was
 -- asked than the spans that were read
-pub record StopsServing (hints : Hints) (file : List ℕ) (script : List Step) (before now : ReaderState) : Type 0 where
+pub record StopsServing (plan : Plan) (script : List Step) (before now : ReaderState) : Type 0 where
   pub footer : FooterContent
-  pub grammar : vx_grammar file hints.dtype ≡ Ok footer
+  pub grammar : plan.footer ≡ Ok footer
   pub between : Option Log
-  pub opened_all : Grew (opened (tail_ranges hints file)) before.log between
-  pub stops : Stops (world_of hints file footer (settings_of before)) script between now.log
+  pub opened_all : Grew (opened plan.ranges) before.log between
+  pub stops : Stops (world_of plan footer (settings_of before)) script between now.log
 
 -- what a put of a covered segment that was refused makes of serving
 abbrev pub put_error : CacheError → ServeError
 put_error cache_error.Failed = errors.CacheFault
 put_error cache_error.OutOfMemory = errors.OutOfMemory
 
--- the answer to a script has its cause, where the reader tells its bytes
+-- the answer to a script has its cause, where a file is opened by a plan and the reader tells its bytes
+abbrev pub CauseBy : Plan → List ℕ → List Step → ReaderState → ReaderState → CacheState → CacheState → Result Served ServeError → Type 0
+CauseBy plan file script before now cache cache_now (Ok s) = ServedFrom plan file script before now cache cache_now s
+CauseBy plan file script before now cache cache_now (Err (errors.Open e)) = RefusedFrom plan before now e
+CauseBy plan file script before now cache cache_now (Err (errors.Fault fault)) = SizeFault plan before now fault ⊎ TailFault plan before now fault
+CauseBy plan file script before now cache cache_now (Err errors.CacheFault) = CacheRefused plan before now
+CauseBy plan file script before now cache cache_now (Err errors.OutOfMemory) = StopsOpening plan before now ⊎ StopsServing plan script before now
+
 abbrev pub HasCause : Hints → List ℕ → List Step → ReaderState → ReaderState → CacheState → CacheState → Result Served ServeError → Type 0
-HasCause hints file script before now cache cache_now (Ok s) = ServedFrom hints file script before now cache cache_now s
-HasCause hints file script before now cache cache_now (Err (errors.Open e)) = RefusedFrom hints file before now e
-HasCause hints file script before now cache cache_now (Err (errors.Fault fault)) = SizeFault hints before now fault ⊎ TailFault hints file before now fault
-HasCause hints file script before now cache cache_now (Err errors.CacheFault) = CacheRefused hints file before now
-HasCause hints file script before now cache cache_now (Err errors.OutOfMemory) = StopsOpening hints file before now ⊎ StopsServing hints file script before now
+HasCause hints file = CauseBy (plan_of hints file) file
 
 -- opening answers a fault only where the count of faults rose
 abbrev pub OpeningRose : {A : Type 0} → ReaderState → ReaderState → Result A ServeError → Type 0

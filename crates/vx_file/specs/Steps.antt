@@ -1,5 +1,5 @@
 -- What answering a step does, for every history that the session stood for.
-use Rattle.std.specs.Prelude.{◌≡◌, ℕ, ◌≤◌, List, [], ◌∷◌, ◌++◌, length, map, ◌⊎◌, Option, Some}
+use Rattle.std.specs.Prelude.{◌≡◌, ℕ, ◌+◌, ◌≤◌, List, [], ◌∷◌, ◌++◌, length, map, ◌⊎◌, Option, Some}
 use Rattle.vx_base.specs.Asking.{Log, ranges_of}
 use Rattle.vx_base.specs.Caches.{CacheState}
 use Rattle.vx_base.specs.Counts.{Rises}
@@ -58,6 +58,7 @@ pub record Answering (w : World) (script rest : List Step) (before now : ReaderS
   pub history : List Moment
   pub split : steps_of history ++ rest ≡ script
   pub replies_are : replies_of history ≡ replies
+  pub one_each : length replies + length rest ≡ length script
   pub fits : Fits w history
   pub leads : Leads w cache history cache_now
   pub stands : Stands w history k

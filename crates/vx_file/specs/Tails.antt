@@ -1,6 +1,6 @@
 -- What reading the tail of a file gives, and the footer that it tells.
-use Rattle.std.specs.Prelude.{◌≡◌, ◌⊎◌, ℕ, ◌+◌, ◌-◌, false, List, [], ◌∷◌, ◌++◌, length, drop, Option, Some, None, Result, Ok, Err, true, IfOk, IfErr, IsOk, OnErr}
-use Rattle.vx_base.specs.Asking.{Log, GrewOrStayed}
+use Rattle.std.specs.Prelude.{◌≡◌, ◌⊎◌, ℕ, ◌+◌, ◌-◌, false, List, [], ◌∷◌, ◌++◌, length, drop, Option, Some, None, is_none, Result, Ok, Err, true, IfOk, IfErr, IsOk, OnErr}
+use Rattle.vx_base.specs.Asking.{GrewOrStayed}
 use Rattle.vx_base.specs.Buffer.{bytes_at}
 use Rattle.vx_base.specs.Counts.{Rises}
 use Rattle.vx_base.specs.Readers.{ReaderState}
@@ -22,6 +22,7 @@ use Rattle.vx_file.specs.declared.served.ServeError.{ServeError}
 use Rattle.vx_file.specs.declared.served.ServeError.TheVariants as errors
 use Rattle.vx_source.specs.Asks.{Grew}
 use Rattle.vx_file.specs.Hints.{Hints, IsSizeOf}
+use Rattle.vx_file.specs.Plans.{tail_plan}
 use Rattle.vx_file.specs.Ranges.{first_start, tail_start, tail_ranges, opening_range, opened}
 use Rattle.vx_file.specs.Serving.{RefusedFrom, SizeFault, TailFault, StopsOpening, faulty}
 
@@ -31,7 +32,7 @@ use Rattle.vx_file.specs.Serving.{RefusedFrom, SizeFault, TailFault, StopsOpenin
 pub record SizeCause (hints : Hints) (before now : ReaderState) (size : Result ℕ Fault) : Type 0 where
   pub told : IfOk size (λ n. (file : List ℕ) → before.bytes ≡ Some file → IsSizeOf hints.size file → n ≡ length file)
   pub fault : IfErr size (λ f. f ≡ size_fault)
-  pub unknown : OnErr size (hints.size ≡ None)
+  pub asks : OnErr size (is_none hints.size ≡ true)
   pub failed : OnErr size (Rises 1 before.faults now.faults)
   pub sound : before.never_fails ≡ true → IsOk size × (now.faults ≡ before.faults)
   pub log : now.log ≡ before.log
@@ -62,7 +63,7 @@ first_range hints file = (first_start hints (length file), length file - first_s
 abbrev pub FirstCause : Hints → List ℕ → ReaderState → ReaderState → Result Tail ServeError → Type 0
 FirstCause hints file before now (Ok t) = FirstRead hints file before now t
 FirstCause hints file before now (Err (errors.Open e)) = ⊥
-FirstCause hints file before now (Err (errors.Fault fault)) = SizeFault hints before now fault ⊎ RangeFault (first_range hints file).0 (first_range hints file).1 before now fault
+FirstCause hints file before now (Err (errors.Fault fault)) = SizeFault (tail_plan hints file) before now fault ⊎ RangeFault (first_range hints file).0 (first_range hints file).1 before now fault
 FirstCause hints file before now (Err errors.CacheFault) = ⊥
 FirstCause hints file before now (Err errors.OutOfMemory) = GrewOrStayed (opening_range (first_range hints file) ∷ []) before.log now.log
 
@@ -145,10 +146,10 @@ IsSettled hints o None = asks_bytes (tail_step hints o.tail) ≡ false
 
 abbrev pub TailCause : Hints → List ℕ → ReaderState → ReaderState → Result Opening ServeError → Type 0
 TailCause hints file before now (Ok o) = TailRead hints file before now o
-TailCause hints file before now (Err (errors.Open e)) = RefusedFrom hints file before now e
-TailCause hints file before now (Err (errors.Fault fault)) = SizeFault hints before now fault ⊎ TailFault hints file before now fault
+TailCause hints file before now (Err (errors.Open e)) = RefusedFrom (tail_plan hints file) before now e
+TailCause hints file before now (Err (errors.Fault fault)) = SizeFault (tail_plan hints file) before now fault ⊎ TailFault (tail_plan hints file) before now fault
 TailCause hints file before now (Err errors.CacheFault) = ⊥
-TailCause hints file before now (Err errors.OutOfMemory) = StopsOpening hints file before now
+TailCause hints file before now (Err errors.OutOfMemory) = StopsOpening (tail_plan hints file) before now
 
 -- the footer of a file, or its refusal
 abbrev pub FooterCause : Hints → List ℕ → Result Footer ServeError → Type 0

@@ -3,6 +3,7 @@
 
 mod covered;
 mod memory;
+mod opened;
 mod opening;
 mod options;
 mod reading;

@@ -2,11 +2,14 @@
 ghost use Rattle.std.specs.Prelude.{◌≡◌, IfOk, None, Some};
 ghost use Rattle.std.specs.Option.{option_map};
 ghost use Rattle.vx_data.specs.Dtype.{dtype_view};
+ghost use Rattle.vx_footer.specs.Footers.{FooterValue};
 ghost use Rattle.vx_file.specs.Hints.{first_length as first_length_of};
+ghost use Rattle.vx_file.specs.Plans.{greatest_end as greatest_end_of};
 
 use std::alloc::{AllocError, Global};
 use std::marker::Model;
 use vx_data::{DType, VortexSession};
+use vx_footer::Footer;
 
 /// The fewest bytes that the first read asks for, where the file is not shorter.
 pub const LEAST_READ: u64 = 65535;
@@ -18,32 +21,37 @@ pub struct ServeOptions {
     initial_read_size: usize,
     file_size: Option<u64>,
     dtype: Option<DType>,
+    footer: Option<Footer>,
 }
 
 impl Model for ServeOptions {
     ghost use Rattle.std.specs.Coded.{codes};
     ghost use Rattle.std.specs.Option.{option_map};
     ghost use Rattle.vx_data.specs.Dtype.{dtype_view};
+    ghost use Rattle.vx_data.specs.Codes.{tree_code};
     ghost use Rattle.vx_footer.specs.DtypeCode.{dtype_code};
+    ghost use Rattle.vx_footer.specs.Footers.{FooterValue};
     ghost use Rattle.vx_file.specs.Hints.{Hints};
 
     ghost Value = { Hints };
 
-    ghost coded = { Prim.hlevel (codes, dtype_code) };
+    ghost coded = { Prim.hlevel (codes, dtype_code, tree_code) };
 
-    ghost view = { λ o. record { size = o.file_size; initial = o.initial_read_size; dtype = option_map dtype_view o.dtype } };
+    ghost view = { λ o. record { size = o.file_size; initial = o.initial_read_size; dtype = option_map dtype_view o.dtype;
+        footer = option_map (λ (f : FooterValue). f.content) o.footer } };
 }
 
 impl ServeOptions {
     /// A file of which nothing is known.
     pub fn new(session: VortexSession) -> ServeOptions
-        ensures { result ≡ record { size = None; initial = 0; dtype = None } }
+        ensures { result ≡ record { size = None; initial = 0; dtype = None; footer = None } }
     {
         ServeOptions {
             session,
             initial_read_size: 0,
             file_size: None,
             dtype: None,
+            footer: None,
         }
     }
 
@@ -75,6 +83,16 @@ impl ServeOptions {
         changed
     }
 
+    /// The same with the footer of the file, or without one. With a footer nothing of the file is read before its
+    /// segments are, and a type of the rows that is here is not looked at.
+    pub fn with_some_footer(self, footer: Option<Footer>) -> ServeOptions
+        ensures { result ≡ record self { footer = option_map (λ (f : FooterValue). f.content) footer } }
+    {
+        let mut changed = self;
+        changed.footer = footer;
+        changed
+    }
+
     /// The size of the file, where it is known.
     pub fn file_size(&self) -> Option<u64>
         ensures { result ≡ self.now.size }
@@ -101,5 +119,22 @@ impl ServeOptions {
             Some(dtype) => Ok(Some(dtype.share(alloc)?)),
             None => Ok(None),
         }
+    }
+
+    /// The footer of the file, where it is known.
+    pub(crate) fn share_footer(&self, alloc: Global) -> Result<Option<Footer>, AllocError>
+        ensures { IfOk result (λ footer. option_map (λ (f : FooterValue). f.content) footer ≡ self.now.footer) }
+    {
+        match &self.footer {
+            Some(footer) => Ok(Some(footer.share(alloc)?)),
+            None => Ok(None),
+        }
+    }
+
+    /// The greatest end that a segment may have: the size of the file, where it is known, or else the last offset.
+    pub(crate) fn greatest_end(&self) -> u64
+        ensures { result ≡ greatest_end_of self.now.size }
+    {
+        self.file_size.unwrap_or(u64::MAX)
     }
 }

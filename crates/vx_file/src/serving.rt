@@ -1,49 +1,54 @@
-//! Serves scripts: opens a file from its tail, and answers one reply a step.
-ghost use Rattle.std.specs.Prelude.{◌≡◌, ◌+◌, ◌-◌, ◌≤◌, ◌<◌, ◌^◌, ◌∷◌, [], ℕ, List, length, All, Some, true, IfOk, IsOk};
+//! Serves scripts: opens a file, and answers one reply a step.
+ghost use Rattle.std.specs.Prelude.{◌≡◌, [], ℕ, List, Some, true, Err, IfOk, IsOk, OnOk};
 ghost use Rattle.vx_base.specs.Caches.{SameCache};
+ghost use Rattle.vx_base.specs.Counts.{Rises};
 ghost use Rattle.vx_base.specs.Readers.{SameReader};
-ghost use Rattle.vx_footer.specs.Opening.{EndsWithin, vx_grammar};
+ghost use Rattle.vx_base.specs.declared.segment_cache.CacheError.TheVariants as cache_error;
 ghost use Rattle.vx_source.specs.Bytes.{IsEnd, HasBytes};
-ghost use Rattle.vx_source.specs.Stands.{Stands, world};
-ghost use Rattle.vx_file.specs.Hints.{IsSizeOf};
-ghost use Rattle.vx_file.specs.Ranges.{range_before};
+ghost use Rattle.vx_source.specs.Kept.{tail_start};
+ghost use Rattle.vx_source.specs.Puts.{Gains};
+ghost use Rattle.vx_source.specs.Stands.{AreFit, Stands, world};
+ghost use Rattle.vx_file.specs.Covered.{covered_from};
+ghost use Rattle.vx_file.specs.Hints.{IsSized, IsFooterOf};
+ghost use Rattle.vx_file.specs.Plans.{plan_of};
 ghost use Rattle.vx_file.specs.Serving.{HasCause, FaultRose, NamesCheck, StandsStill, Succeeds};
 
 use crate::covered::put_covered;
-use crate::opening::{Opening, footer_of, read_tail};
+use crate::opened::{Opened, open_file};
 use crate::steps::answer_steps;
 use crate::{ServeError, ServeOptions, Served, Step};
 use std::alloc::{AllocError, Global};
-use vx_base::{Reader, SegmentCache, SegmentSpec, Sequence};
+use vx_base::{CacheError, Reader, SegmentCache, SegmentSpec};
 use vx_source::{Session, Tail};
 
-/// The ranges that were asked for a tail, of which the first began at `first`.
-fn ranges_of(alloc: Global, tail: &Tail, first: u64) -> Result<Sequence<(u64, u64)>, AllocError>
-    requires after { tail.now.start ≤ first }
-    requires inside { first ≤ tail.now.start + length tail.now.bytes.bytes }
-    requires bound { tail.now.start + length tail.now.bytes.bytes < 2 ^ 64 }
-    ensures { IfOk result (λ ranges. ranges ≡ (first, tail.now.start + length tail.now.bytes.bytes - first) ∷ range_before tail.now.start first) }
+/// Puts the segments that the tail covers, if one was read, into the cache.
+fn put_tail<C: SegmentCache>(
+    alloc: Global,
+    cache: &mut C,
+    tail: &Option<Tail>,
+    segments: &[SegmentSpec],
+) -> Result<(), CacheError>
+    requires { AreFit segments.now tail.now }
+    ensures gains { OnOk result ((file : List ℕ) → IsEnd file tail.now → Gains (covered_from file (tail_start tail.now) segments.now) (C.state cache.old) (C.state cache.new)) }
+    ensures failed { result ≡ Err cache_error.Failed → Rises 1 (C.state cache.old).faults (C.state cache.new).faults }
+    ensures same { SameCache (C.state cache.old) (C.state cache.new) }
 {
-    let mut ranges = Sequence::new(alloc);
-    let size = tail.start + tail.bytes.len() as u64;
-    ranges.push((first, size - first))?;
-    if tail.start < first {
-        ranges.push((tail.start, first - tail.start))?;
+    match tail {
+        Some(tail) => put_covered(alloc, cache, tail, segments),
+        None => Ok(()),
     }
-    Ok(ranges)
 }
 
-/// A session over the tail of a file, with the settings of its reader.
+/// A session for segments, over the tail of their file, if one was read, with the settings of its reader.
 fn session_of<R: Reader>(
     alloc: Global,
     reader: &R,
-    tail: Tail,
+    tail: Option<Tail>,
     segments: &[SegmentSpec],
 ) -> Result<Session, AllocError>
-    requires bound { tail.start + length tail.bytes.bytes < 2 ^ 64 }
-    requires within { All (EndsWithin (tail.start + length tail.bytes.bytes)) segments.now }
-    ensures stands { IfOk result (Stands (world segments.now (R.state reader.now).distance (R.state reader.now).max_read_size (R.state reader.now).concurrency (Some tail.start)) []) }
-    ensures bytes { IfOk result (λ session. (file : List ℕ) → IsEnd file (Some tail) → HasBytes file session) }
+    requires { AreFit segments.now tail }
+    ensures stands { IfOk result (Stands (world segments.now (R.state reader.now).distance (R.state reader.now).max_read_size (R.state reader.now).concurrency (tail_start tail)) []) }
+    ensures bytes { IfOk result (λ session. (file : List ℕ) → IsEnd file tail → HasBytes file session) }
 {
     let concurrency = reader.concurrency();
     prove!(concurrency >= 1);
@@ -54,12 +59,12 @@ fn session_of<R: Reader>(
         reader.coalesce_distance(),
         reader.max_read_size(),
         concurrency,
-        Some(tail),
+        tail,
     )
 }
 
-/// Opens a file from its tail and answers a script, one reply a step. The cache is asked for segments that the
-/// tail does not cover, and given those that it covers and those that are read.
+/// Opens a file, from its tail or by the footer that is supplied, and answers a script, one reply a step. The cache
+/// is asked for segments that the tail does not cover, and given those that it covers and those that are read.
 pub fn serve<R: Reader, C: SegmentCache>(
     alloc: Global,
     options: ServeOptions,
@@ -67,33 +72,31 @@ pub fn serve<R: Reader, C: SegmentCache>(
     reader: &mut R,
     script: &[Step],
 ) -> Result<Served, ServeError>
-    // Each answer has its cause, where the reader tells its bytes and a size that is supplied is theirs: a history
-    // answers the script, a file is refused by the name of the first check that it fails, and the reader was asked
-    // exactly for the ranges that are named.
-    ensures cause { (file : List ℕ) → (R.state reader.old).bytes ≡ Some file → IsSizeOf options.size file →
+    // Each answer has its cause, where the reader tells its bytes and a size by which the tail is read is theirs: a
+    // history answers the script, a file is refused by the name of the first check that it fails, and the reader was
+    // asked exactly for the ranges that are named.
+    ensures cause { (file : List ℕ) → (R.state reader.old).bytes ≡ Some file → IsSized options file →
         HasCause options file script.now (R.state reader.old) (R.state reader.new) (C.state cache.old) (C.state cache.new) result }
     ensures fault { FaultRose (R.state reader.old) (R.state reader.new) (C.state cache.old) (C.state cache.new) result }
     ensures names { NamesCheck result }
-    // A file of the grammar is served where the counts of the reader and of the cache stand still.
-    ensures served { (file : List ℕ) → (R.state reader.old).bytes ≡ Some file → IsSizeOf options.size file →
-        IsOk (vx_grammar file options.dtype) → StandsStill (R.state reader.old).faults (R.state reader.new).faults →
+    // A file that passes its checks is served where the counts of the reader and of the cache stand still.
+    ensures served { (file : List ℕ) → (R.state reader.old).bytes ≡ Some file → IsSized options file →
+        IsOk (plan_of options file).footer → StandsStill (R.state reader.old).faults (R.state reader.new).faults →
         StandsStill (C.state cache.old).faults (C.state cache.new).faults → Succeeds result }
-    // The count of a reader that never fails stands still.
+    // The count of a reader that never fails stands still, where a footer that is supplied is the file's.
     ensures steady { (file : List ℕ) → (R.state reader.old).never_fails ≡ true → (R.state reader.old).bytes ≡ Some file →
-        IsSizeOf options.size file → (R.state reader.new).faults ≡ (R.state reader.old).faults }
+        IsSized options file → IsFooterOf options.footer file → (R.state reader.new).faults ≡ (R.state reader.old).faults }
     ensures same { SameReader (R.state reader.old) (R.state reader.new) }
     ensures same_cache { SameCache (C.state cache.old) (C.state cache.new) }
 {
-    let opened = read_tail(alloc, &options, reader)?;
-    let Opening {
-        tail,
-        first,
+    let opened = open_file(alloc, &options, reader)?;
+    let Opened {
         footer,
+        tail,
+        ranges,
     } = opened;
-    let footer = footer_of(alloc, &options, &tail, footer)?;
-    let opening = ranges_of(alloc, &tail, first)?;
     let segments = footer.segment_specs_with_metadata();
-    put_covered(alloc, cache, &tail, segments)?;
+    put_tail(alloc, cache, &tail, segments)?;
     let mut session = session_of(alloc, reader, tail, segments)?;
     let replies = match answer_steps(alloc, &mut session, reader, cache, script) {
         Ok(replies) => replies,
@@ -101,7 +104,7 @@ pub fn serve<R: Reader, C: SegmentCache>(
     };
     Ok(Served {
         footer,
-        opening,
+        opening: ranges,
         replies,
     })
 }

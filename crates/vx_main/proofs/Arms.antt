@@ -1,11 +1,17 @@
 -- The answers of commands, from the script that they read and the file that they serve.
-use Rattle.std.proofs.Common.{◌≡◌, ℕ, ◌≤◌, true, List, [], ◌∷◌, length, Option, Some, None, Ok, Err, refl, sym, ap, subst, ◌∙◌, cond, inl, inr}
+use Rattle.std.proofs.Common.{◌≡◌, ℕ, ◌≤◌, true, List, [], ◌∷◌, ◌++◌, length, Option, Some, None, Result, Ok, Err, refl, sym, ap, subst, ◌∙◌, cond, inl, inr}
 use Rattle.std.specs.Prelude.{is_some}
 use Rattle.std.proofs.lemmas.Bool.{le-ltb, lt-ltb}
+use Rattle.std.proofs.lemmas.List.{append-nil}
 use Rattle.vx_base.specs.Openers.{OpenerState, AsksFor}
 use Rattle.vx_base.specs.Streams.{SourceState, SinkState}
+use Rattle.vx_base.specs.declared.segment.SegmentId.{SegmentId}
 use Rattle.vx_footer.specs.declared.error.OpenError.{OpenError}
+use Rattle.vx_footer.specs.declared.sizes_error.SizesError.TheVariants.{MissingSegment}
+use Rattle.vx_footer.specs.FieldSizes.{SizeList, SizesGiven, missing}
+use Rattle.vx_footer.specs.Footers.{FooterContent}
 use Rattle.vx_footer.specs.Opening.{vx_grammar}
+use Rattle.vx_source.specs.declared.reply.Reply.{Reply}
 use Rattle.vx_file.specs.declared.step.Step.{Step}
 use Rattle.vx_file.specs.declared.served.Served.{Served}
 use Rattle.vx_write.specs.Column.{written}
@@ -14,20 +20,24 @@ use Rattle.vx_main.specs.declared.command.Command.{Command}
 use Rattle.vx_main.specs.declared.command.Command.TheVariants as commands
 use Rattle.vx_main.specs.declared.commands.serve.Serve as serve
 use Rattle.vx_main.specs.declared.commands.demo.Demo as demo
+use Rattle.vx_main.specs.declared.commands.sizes.Sizes as sizes
 use Rattle.vx_main.specs.declared.failure.Failure.{Failure}
 use Rattle.vx_main.specs.declared.failure.Failure.TheVariants as failures
 use Rattle.vx_main.specs.declared.input.TheConstants.{MOST_INPUT}
-use Rattle.vx_main.specs.Command.{reads_script, serve_hints}
+use Rattle.vx_main.specs.Command.{reads_script, serve_hints, sizes_hints}
 use Rattle.vx_file.specs.Hints.{Hints, IsSizeOf}
+use Rattle.vx_file.specs.Ranges.{tail_ranges, opened}
+use Rattle.vx_file.specs.Scripts.{asked_for}
 use Rattle.vx_main.specs.Demo.{Demonstrates, DemoCause}
 use Rattle.vx_main.specs.Failures.{LeavesFiles}
 use Rattle.vx_main.specs.Input.{ReadsScript, ScriptCause, BadLine, BadLength}
-use Rattle.vx_main.specs.Outputs.{IsTold, IsTrueSize, wanted_status, input_status, script_status, file_status, grammar_status}
+use Rattle.vx_main.specs.Outputs.{IsTold, IsTrueSize, wanted_status, input_status, script_status, file_status, grammar_status, missing_status, sizes_status, measured_status}
 use Rattle.vx_main.specs.Outside.{outside}
 use Rattle.vx_main.specs.Reading.{settings_by, new_cache}
 use Rattle.vx_main.specs.Runs.{Gathers}
 use Rattle.vx_main.specs.Script.{script_of}
-use Rattle.vx_main.specs.Served.{FileCause}
+use Rattle.vx_main.specs.Served.{FileCause, GivesBack}
+use Rattle.vx_main.specs.Sizes.{OpensFile}
 
 -- ---- the status of an input
 
@@ -57,6 +67,7 @@ pub script-fails : (c : Command) (file : ℕ) (source source_now : SourceState) 
     → ((out : SinkState) → IsTold c (outside source files out) → is_some source.rest ≡ true)
     → LeavesFiles c files files → ScriptCause source source_now (Err failure) → Gathers c source source_now files files (Err failure)
 script-fails c file source source_now files failures.Usage reads wanted told leaves h = absurd h
+script-fails c file source source_now files failures.MissingSegment reads wanted told leaves h = absurd h
 script-fails c file source source_now files (failures.Line line) reads wanted told leaves h = record {
   each = λ out. record {
     fault = record { reads = reads; wants = h; files = refl; out = refl };
@@ -91,11 +102,12 @@ refused-status hints refusal (Some file) told sized h = ap grammar_status (h fil
 pub serve-fails : (s : serve.Serve) (steps : List Step) (source source_now : SourceState) (files files_now : OpenerState) (failure : Failure) → ReadsScript source source_now steps
     → FileCause (serve_hints s) (settings_by s.reading) (new_cache s.reading.kept) s.name steps files files_now (Err failure) → Gathers (commands.Serve s) source source_now files files_now (Err failure)
 serve-fails s steps source source_now files files_now failures.Usage script h = absurd h
+serve-fails s steps source source_now files files_now failures.MissingSegment script h = absurd h
 serve-fails s steps source source_now files files_now (failures.Line line) script h = absurd h
 serve-fails s steps source source_now files files_now (failures.Refused refusal) script h = record {
   each = λ out. record {
     name = s.name;
-    asks = record { named = refl; steps = steps; script = script; asked = h.0; out = refl };
+    asks = record { named = refl; input = (steps, script); asked = h.0; out = refl };
     back = h.1;
     refuses = h.2;
     deserved = λ told. read-status source source_now steps source.rest (file_status (serve_hints s) (files.file s.name)) refl told.0 script
@@ -105,7 +117,7 @@ serve-fails s steps source source_now files files_now (failures.Refused refusal)
 serve-fails s steps source source_now files files_now (failures.Read fault) script h = record {
   each = λ out. record {
     name = s.name;
-    asks = record { named = refl; steps = steps; script = script; asked = h.0; out = refl };
+    asks = record { named = refl; input = (steps, script); asked = h.0; out = refl };
     back = h.1;
     rose = h.2;
     lacks = h.3;
@@ -115,7 +127,7 @@ serve-fails s steps source source_now files files_now failures.Input script h = 
 serve-fails s steps source source_now files files_now failures.Output script h = absurd h
 serve-fails s steps source source_now files files_now (failures.Open name) script h = record {
   each = λ out. record {
-    asks = record { named = ap (λ n. n ∷ []) (sym h.0); steps = steps; script = script; asked = subst (λ n. AsksFor n files files_now) (sym h.0) h.1; out = refl };
+    asks = record { named = ap (λ n. n ∷ []) (sym h.0); input = (steps, script); asked = subst (λ n. AsksFor n files files_now) (sym h.0) h.1; out = refl };
     rose = h.2;
   };
 }
@@ -156,6 +168,7 @@ demo-unread d source source_now files failure h =
 pub demo-fails : (d : demo.Demo) (steps : List Step) (source source_now : SourceState) (files : OpenerState) (failure : Failure) → DemoCause d.values steps (Err failure)
     → Gathers (commands.Demo d) source source_now files files (Err failure)
 demo-fails d steps source source_now files failures.Usage h = absurd h
+demo-fails d steps source source_now files failures.MissingSegment h = absurd h
 demo-fails d steps source source_now files (failures.Line line) h = absurd h
 demo-fails d steps source source_now files (failures.Refused refusal) h = absurd h
 demo-fails d steps source source_now files (failures.Read fault) h = absurd h
@@ -173,3 +186,102 @@ demo-answers d steps source source_now files served script h = record {
     deserved = λ told. read-status source source_now steps source.rest (grammar_status (vx_grammar (written d.values) None)) refl told script ∙ ap grammar_status h.holds.grammar;
   };
 }
+
+-- ---- sizes
+
+unmeasured-status : (hints : Hints) (refusal : OpenError) (o : Option (List ℕ)) → is_some o ≡ true → ((file : List ℕ) → o ≡ Some file → vx_grammar file hints.dtype ≡ Err refusal) → measured_status hints o ≡ 4
+unmeasured-status hints refusal None told h = absurd cc
+unmeasured-status hints refusal (Some file) told h = ap sizes_status (h file refl)
+
+measured-status : (hints : Hints) (footer : FooterContent) (o : Option (List ℕ)) (code : ℕ) → is_some o ≡ true → ((file : List ℕ) → o ≡ Some file → vx_grammar file hints.dtype ≡ Ok footer)
+    → missing_status (missing footer.layout footer.segments) ≡ code → measured_status hints o ≡ code
+measured-status hints footer None code told h e = absurd cc
+measured-status hints footer (Some file) code told h e = ap sizes_status (h file refl) ∙ e
+
+abbrev opens : sizes.Sizes → OpenerState → OpenerState → Result Served Failure → Type 0
+opens s files files_now answer = OpensFile (sizes_hints s) s.name files files_now answer
+
+no-replies : (replies : List Reply) → length replies ≡ 0 → replies ≡ []
+no-replies [] e = refl
+no-replies (reply ∷ replies) e = absurd cc
+
+-- what opening without a step asked
+asked-nothing-more : (name : List ℕ) (ranges : List (ℕ × ℕ)) (replies : List Reply) (before now : OpenerState) → length replies ≡ 0 → GivesBack name before now (opened ranges ++ asked_for replies) → GivesBack name before now (opened ranges)
+asked-nothing-more name ranges replies before now none h =
+    subst (GivesBack name before now) (ap (λ rs. opened ranges ++ asked_for rs) (no-replies replies none) ∙ append-nil (opened ranges)) h
+
+-- the file was not opened
+pub sizes-fails : (s : sizes.Sizes) (source : SourceState) (files files_now : OpenerState) (failure : Failure) → opens s files files_now (Err failure) → Gathers (commands.Sizes s) source source files files_now (Err failure)
+sizes-fails s source files files_now failures.Usage h = absurd h
+sizes-fails s source files files_now (failures.Line line) h = absurd h
+sizes-fails s source files files_now (failures.Refused refusal) h = record {
+  each = λ out. record {
+    name = s.name;
+    asks = record { named = refl; input = refl; asked = h.0; out = refl };
+    back = h.1;
+    refuses = h.2;
+    deserved = λ told. unmeasured-status (sizes_hints s) refusal (files.file s.name) told (λ file e. (h.2 file e tt).fails);
+  };
+}
+sizes-fails s source files files_now failures.MissingSegment h = absurd h
+sizes-fails s source files files_now (failures.Read fault) h = record {
+  each = λ out. record {
+    name = s.name;
+    asks = record { named = refl; input = refl; asked = h.0; out = refl };
+    back = h.1;
+    rose = h.2;
+    lacks = h.3;
+  };
+}
+sizes-fails s source files files_now failures.Input h = absurd h
+sizes-fails s source files files_now failures.Output h = absurd h
+sizes-fails s source files files_now (failures.Open name) h = record {
+  each = λ out. record {
+    asks = record { named = ap (λ n. n ∷ []) (sym h.0); input = refl; asked = subst (λ n. AsksFor n files files_now) (sym h.0) h.1; out = refl };
+    rose = h.2;
+  };
+}
+sizes-fails s source files files_now failures.InputTooLong h = absurd h
+sizes-fails s source files files_now failures.OutOfMemory h = record { each = λ out. record { files = h; out = inl refl } }
+
+-- the file was opened
+module _ (s : sizes.Sizes) (source : SourceState) (files files_now : OpenerState) (served : Served) (h : opens s files files_now (Ok served)) where
+  grammar : (file : List ℕ) → files.file s.name ≡ Some file → vx_grammar file s.dtype ≡ Ok served.footer.content
+  grammar file e = (h.2 file e tt).footer
+
+  pub sizes-answers : (sizes : SizeList) → SizesGiven served.footer.content.layout served.footer.content.segments (Ok sizes) → Gathers (commands.Sizes s) source source files files_now (Ok (answers.Sizes sizes))
+  sizes-answers sizes given = record {
+    each = λ out. record {
+      is = record {
+        sizes = sizes;
+        is = refl;
+        source = refl;
+        asked = h.0;
+        back = h.1;
+        measures = λ file e. let serves = h.2 file e tt in record {
+          footer = served.footer.content;
+          grammar = grammar file e;
+          there = given.0;
+          sizes_are = given.1;
+          back = asked-nothing-more s.name (tail_ranges (sizes_hints s) file) served.replies files files_now serves.plays.answers.one_each
+              (subst (λ rs. GivesBack s.name files files_now (opened rs ++ asked_for served.replies)) serves.opening serves.back);
+        };
+      };
+      deserved = λ told. measured-status (sizes_hints s) served.footer.content (files.file s.name) 0 told grammar (ap missing_status given.0);
+    };
+  }
+
+  pub sizes-lacks : (id : SegmentId) → SizesGiven served.footer.content.layout served.footer.content.segments (Err (MissingSegment id)) → Gathers (commands.Sizes s) source source files files_now (Err failures.MissingSegment)
+  sizes-lacks id given = record {
+    each = λ out. record {
+      name = s.name;
+      asks = record { named = refl; input = refl; asked = h.0; out = refl };
+      back = h.1;
+      lacks = λ file e. record { footer = served.footer.content; grammar = grammar file e; id = id.0; lacks = given };
+      deserved = λ told. measured-status (sizes_hints s) served.footer.content (files.file s.name) 4 told grammar (ap missing_status given);
+    };
+  }
+
+  -- memory ran out behind the opening
+  pub sizes-stopped : Gathers (commands.Sizes s) source source files files_now (Err failures.OutOfMemory)
+  sizes-stopped = record { each = λ out. record { files = inr (record { asked = h.0; back = inl h.1 }); out = inl refl } }

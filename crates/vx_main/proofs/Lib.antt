@@ -7,6 +7,7 @@ pub mod Lists
 pub mod OptionLemmas
 pub mod Openings
 pub mod Performing
+pub mod RowTypes
 pub mod StatusRows
 pub mod Streaming
 pub mod TextLemmas

@@ -1,5 +1,5 @@
 -- The cause of what was served from the file of a name, from the causes of its parts.
-use Rattle.std.proofs.Common.{◌≡◌, ℕ, ◌+◌, ◌≤◌, min, List, [], ◌∷◌, ◌++◌, Option, Some, Result, Ok, Err, ap, subst, ◌∙◌, arith, ◌⊎◌, inl, inr}
+use Rattle.std.proofs.Common.{◌≡◌, ℕ, ◌+◌, ◌≤◌, min, List, [], ◌∷◌, ◌++◌, Option, Some, None, Result, Ok, Err, sym, ap, subst, ◌∙◌, arith, ◌⊎◌, inl, inr}
 use Rattle.std.specs.Prelude.{Vec}
 use Rattle.std.specs.Global.{Global}
 use Rattle.std.specs.Option.{option_map}
@@ -12,11 +12,12 @@ use Rattle.vx_base.specs.Streams.{SourceState}
 use Rattle.vx_sched.specs.declared.fault.Fault.{Fault}
 use Rattle.vx_file.specs.declared.step.Step.{Step}
 use Rattle.vx_file.specs.declared.served.Served.{Served}
-use Rattle.vx_file.specs.Hints.{Hints, IsSizeOf}
+use Rattle.vx_file.specs.Hints.{Hints, IsSizeOf, IsSized, IsSizeBeside, IsFooterOf}
 use Rattle.vx_source.specs.Asks.{Grew}
 use Rattle.vx_footer.specs.declared.error.OpenError.{OpenError}
 use Rattle.vx_file.specs.Ranges.{opened as opened_ranges}
-use Rattle.vx_file.specs.Serving.{ServedFrom, Plays, world_of, covered_by, asked, faulty, SizeFault, TailFault, RefusedFrom}
+use Rattle.vx_file.specs.Plans.{Plan, plan_of, world_of, covered_by}
+use Rattle.vx_file.specs.Serving.{ServedFrom, Plays, asked, faulty, SizeFault, TailFault, RefusedFrom}
 use Rattle.vx_file.specs.Scripts.{bad_replies, cache_failures}
 use Rattle.vx_main.specs.declared.failure.Failure.{Failure}
 use Rattle.vx_main.specs.declared.failure.Failure.TheVariants as failures
@@ -31,6 +32,7 @@ script-cause before now text (Err (failures.Line line)) read h = λ t told. let 
 script-cause before now text (Err failures.OutOfMemory) read h = tt
 script-cause before now text (Err failures.Usage) read h = absurd h
 script-cause before now text (Err (failures.Refused refusal)) read h = absurd h
+script-cause before now text (Err failures.MissingSegment) read h = absurd h
 script-cause before now text (Err (failures.Read fault)) read h = absurd h
 script-cause before now text (Err failures.Input) read h = absurd h
 script-cause before now text (Err failures.Output) read h = absurd h
@@ -67,22 +69,22 @@ gives-back name settings before now opened served gained lent grew = record {
 none-failed : (by before now : ℕ) → before ≡ 0 → now ≡ 0 → Rises by before now → by ≡ 0
 none-failed by before now first last h = let r = h.risen in omega (arith, first, last, r)
 
-serves-file : (hints : Hints) (cache cache_now : CacheState) (file name : List ℕ) (script : List Step) (settings : ReaderSettings) (before now : OpenerState) (opened served : ReaderState) (s : Served) → Lent name settings before now opened served
-    → cache.faults ≡ 0 → cache_now.faults ≡ 0 → ServedFrom hints file script opened served cache cache_now s → ServesFile hints settings cache file name script before now s
-serves-file hints cache cache_now file name script settings before now opened served s lent first last h = record {
+serves-file : (plan : Plan) (cache cache_now : CacheState) (file name : List ℕ) (script : List Step) (settings : ReaderSettings) (before now : OpenerState) (opened served : ReaderState) (s : Served) → Lent name settings before now opened served
+    → cache.faults ≡ 0 → cache_now.faults ≡ 0 → ServedFrom plan file script opened served cache cache_now s → ServesFile plan settings cache file name script before now s
+serves-file plan cache cache_now file name script settings before now opened served s lent first last h = record {
   footer = h.footer;
   opening = h.opening;
   cache_now = cache_now;
-  plays = subst (λ r. Plays (world_of hints file s.footer.content r) file (covered_by hints file s.footer.content) script cache cache_now s.replies) lent.has h.plays;
+  plays = subst (λ r. Plays (world_of plan s.footer.content r) file (covered_by plan file s.footer.content) script cache cache_now s.replies) lent.has h.plays;
   cache_good = none-failed (cache_failures s.replies) cache.faults cache_now.faults first last h.plays.failed;
   back = gives-back name settings before now opened served (asked s) lent h.asked;
   bad = rises-through (bad_replies s.replies) before.read_faults now.read_faults opened.faults served.faults lent.faultless lent.counted lent.never_falls h.bad;
 }
 
-lacks : (hints : Hints) (file name : List ℕ) (fault : Fault) (settings : ReaderSettings) (before now : OpenerState) (opened served : ReaderState) → Lent name settings before now opened served → SizeFault hints opened served fault ⊎ TailFault hints file opened served fault
-    → LacksSize hints name fault before now ⊎ LacksTail hints file name fault before now
-lacks hints file name fault settings before now opened served lent (inl h) = inl (record { unknown = h.unknown; is = h.is; back = gives-back name settings before now opened served [] lent h.asked })
-lacks hints file name fault settings before now opened served lent (inr h) = inr (record {
+lacks : (plan : Plan) (name : List ℕ) (fault : Fault) (settings : ReaderSettings) (before now : OpenerState) (opened served : ReaderState) → Lent name settings before now opened served → SizeFault plan opened served fault ⊎ TailFault plan opened served fault
+    → LacksSize plan name fault before now ⊎ LacksTail plan name fault before now
+lacks plan name fault settings before now opened served lent (inl h) = inl (record { asks = h.asks; is = h.is; back = gives-back name settings before now opened served [] lent h.asked })
+lacks plan name fault settings before now opened served lent (inr h) = inr (record {
   front = h.front;
   range = h.range;
   rest = h.rest;
@@ -91,19 +93,28 @@ lacks hints file name fault settings before now opened served lent (inr h) = inr
   back = gives-back name settings before now opened served (opened_ranges h.front ++ faulty h.range fault ∷ []) lent h.asked;
 })
 
-refuses : (hints : Hints) (file name : List ℕ) (refusal : OpenError) (settings : ReaderSettings) (before now : OpenerState) (opened served : ReaderState) → Lent name settings before now opened served → RefusedFrom hints file opened served refusal → RefusesFile hints file name refusal before now
-refuses hints file name refusal settings before now opened served lent h = record { fails = h.fails; back = gives-back name settings before now opened served _ lent h.asked }
+refuses : (plan : Plan) (name : List ℕ) (refusal : OpenError) (settings : ReaderSettings) (before now : OpenerState) (opened served : ReaderState) → Lent name settings before now opened served → RefusedFrom plan opened served refusal → RefusesFile plan name refusal before now
+refuses plan name refusal settings before now opened served lent h = record { fails = h.fails; back = gives-back name settings before now opened served _ lent h.asked }
 
 pub file-cause : (hints : Hints) (chosen : ReaderSettings → ReaderSettings) (cache cache_now : CacheState) (name : List ℕ) (script : List Step) (before now : OpenerState) (opened served : ReaderState) (answer : Result Served Failure)
     → Lent name (chosen (before.settings name)) before now opened served → cache.faults ≡ 0 → cache_now.faults ≡ 0
     → ((file : List ℕ) → opened.bytes ≡ Some file → IsSizeOf hints.size file → ReaderCause hints file script opened served cache cache_now answer) → ReaderFault opened served answer → FileCause hints chosen cache name script before now answer
-file-cause hints chosen cache cache_now name script before now opened served (Ok s) lent first last cause read = (lent.asked, gave-back name (chosen (before.settings name)) before now opened served lent, λ file told sized. serves-file hints cache cache_now file name script (chosen (before.settings name)) before now opened served s lent first last (cause file (lent.told file told) sized))
-file-cause hints chosen cache cache_now name script before now opened served (Err (failures.Read fault)) lent first last cause read = (lent.asked, gave-back name (chosen (before.settings name)) before now opened served lent, rises-through 1 before.read_faults now.read_faults opened.faults served.faults lent.faultless lent.counted lent.never_falls read, λ file told sized. lacks hints file name fault (chosen (before.settings name)) before now opened served lent (cause file (lent.told file told) sized))
-file-cause hints chosen cache cache_now name script before now opened served (Err (failures.Refused refusal)) lent first last cause read = (lent.asked, gave-back name (chosen (before.settings name)) before now opened served lent, λ file told sized. refuses hints file name refusal (chosen (before.settings name)) before now opened served lent (cause file (lent.told file told) sized))
+file-cause hints chosen cache cache_now name script before now opened served (Ok s) lent first last cause read = (lent.asked, gave-back name (chosen (before.settings name)) before now opened served lent, λ file told sized. serves-file (plan_of hints file) cache cache_now file name script (chosen (before.settings name)) before now opened served s lent first last (cause file (lent.told file told) sized))
+file-cause hints chosen cache cache_now name script before now opened served (Err (failures.Read fault)) lent first last cause read = (lent.asked, gave-back name (chosen (before.settings name)) before now opened served lent, rises-through 1 before.read_faults now.read_faults opened.faults served.faults lent.faultless lent.counted lent.never_falls read, λ file told sized. lacks (plan_of hints file) name fault (chosen (before.settings name)) before now opened served lent (cause file (lent.told file told) sized))
+file-cause hints chosen cache cache_now name script before now opened served (Err (failures.Refused refusal)) lent first last cause read = (lent.asked, gave-back name (chosen (before.settings name)) before now opened served lent, λ file told sized. refuses (plan_of hints file) name refusal (chosen (before.settings name)) before now opened served lent (cause file (lent.told file told) sized))
 file-cause hints chosen cache cache_now name script before now opened served (Err failures.OutOfMemory) lent first last cause read = inr (record { asked = lent.asked; back = inl (gave-back name (chosen (before.settings name)) before now opened served lent) })
 file-cause hints chosen cache cache_now name script before now opened served (Err (failures.Line line)) lent first last cause read = absurd read
+file-cause hints chosen cache cache_now name script before now opened served (Err failures.MissingSegment) lent first last cause read = absurd read
 file-cause hints chosen cache cache_now name script before now opened served (Err failures.Usage) lent first last cause read = absurd read
 file-cause hints chosen cache cache_now name script before now opened served (Err failures.Input) lent first last cause read = absurd read
 file-cause hints chosen cache cache_now name script before now opened served (Err failures.Output) lent first last cause read = absurd read
 file-cause hints chosen cache cache_now name script before now opened served (Err (failures.Open opened_name)) lent first last cause read = absurd read
 file-cause hints chosen cache cache_now name script before now opened served (Err failures.InputTooLong) lent first last cause read = absurd read
+
+-- ---- hints without a footer
+
+pub is_sized : (hints : Hints) (file : List ℕ) → hints.footer ≡ None → IsSizeOf hints.size file → IsSized hints file
+is_sized hints file none h = subst (λ f. IsSizeBeside f hints.size file) (sym none) h
+
+pub is_own_footer : (hints : Hints) (file : List ℕ) → hints.footer ≡ None → IsFooterOf hints.footer file
+is_own_footer hints file none = subst (λ f. IsFooterOf f file) (sym none) tt

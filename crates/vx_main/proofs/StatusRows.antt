@@ -8,8 +8,8 @@ use Rattle.vx_main.specs.declared.failure.Failure.TheVariants as failures
 use Rattle.vx_main.specs.Failures.{HasCause, status_of, message_of}
 use Rattle.vx_main.specs.Outputs.{wanted_status}
 use Rattle.vx_main.specs.Outside.{Outside, Steady}
-use Rattle.vx_main.specs.Runs.{Performs, Concludes, Fails, Reports, Runs, Prints}
-use Rattle.vx_main.specs.Statuses.{AllWell, Means, Statuses}
+use Rattle.vx_main.specs.Runs.{Performs, Concludes, IsUnparsed, Reports, Runs, Prints}
+use Rattle.vx_main.specs.Statuses.{AllWell, EndsUnparsed, Means, Statuses}
 
 -- a count that stands still did not rise
 stood : (before now : ℕ) → Steady before now → Rises 1 before now → ⊥
@@ -24,7 +24,8 @@ record Row (c : Command) (before now : Outside) (err err_now : SinkState) (code 
 row : (c : Command) (before now : Outside) (err err_now : SinkState) (failure : Failure) → HasCause c before now failure → Reports (message_of failure) err err_now → Row c before now err err_now (status_of failure)
 row c before now err err_now failures.Usage h r = absurd h
 row c before now err err_now (failures.Line line) h r = record { means = (line, record { cause = h; reported = r }); complete = λ well. inl (sym (h.deserved well.told)); no_usage = λ e. cc }
-row c before now err err_now (failures.Refused refusal) h r = record { means = (refusal, record { cause = h; reported = r }); complete = λ well. inl (sym (h.deserved well.told)); no_usage = λ e. cc }
+row c before now err err_now (failures.Refused refusal) h r = record { means = inl (refusal, record { cause = h; reported = r }); complete = λ well. inl (sym (h.deserved well.told)); no_usage = λ e. cc }
+row c before now err err_now failures.MissingSegment h r = record { means = inr (record { cause = h; reported = r }); complete = λ well. inl (sym (h.deserved well.told)); no_usage = λ e. cc }
 row c before now err err_now (failures.Read fault) h r = record { means = (fault, record { cause = h; reported = r }); complete = λ well. absurd (stood before.files.read_faults now.files.read_faults (well.files h.name h.asks.named).reads h.rose); no_usage = λ e. cc }
 row c before now err err_now failures.Input h r = record { means = record { cause = h; reported = r }; complete = λ well. absurd (stood before.source.faults now.source.faults (well.input h.reads) h.wants); no_usage = λ e. cc }
 row c before now err err_now failures.Output h r = record { means = record { cause = h; reported = r }; complete = λ well. absurd (stood before.out.faults now.out.faults well.output h.rose); no_usage = λ e. cc }
@@ -42,22 +43,23 @@ performed c before now err err_now code (Err failure) h k = subst (λ n. Row c b
 same-command : (c d : Command) → Some c ≡ Some d → c ≡ d
 same-command c d e = cc
 
+-- words that are no command
+unparsed-ends : (err err_now : SinkState) (code : ℕ) (result : Result (Unit {0}) Failure) → IsUnparsed result → Concludes result err err_now code → EndsUnparsed err err_now code
+unparsed-ends err err_now code result (inl is) h = inl (subst (λ r. Concludes r err err_now code) is h)
+unparsed-ends err err_now code result (inr is) h = inr (subst (λ r. Concludes r err err_now code) is h)
+
 pub statuses-of : (command : Option Command) (before now : Outside) (err err_now : SinkState) (code : ℕ) → Runs command before now err err_now code → Statuses command before now err err_now code
-statuses-of None before now err err_now code h =
-    let fails : Fails failures.Usage err err_now code = subst (λ r. Concludes r err err_now code) h.performs.0 h.concludes in
-    record {
-      usage = λ _. fails.status;
-      usage_only = λ _. refl;
-      reported = λ _. (fails.reported, h.performs.1);
-      means = λ c e. absurd cc;
-      complete = λ c e. absurd cc;
-    }
+statuses-of None before now err err_now code h = record {
+  unparsed = λ _. (unparsed-ends err err_now code h.result h.performs.0 h.concludes, h.performs.1);
+  usage_only = λ _. refl;
+  means = λ c e. absurd cc;
+  complete = λ c e. absurd cc;
+}
 statuses-of (Some c) before now err err_now code h =
     let r = performed c before now err err_now code h.result h.performs h.concludes in
     record {
-      usage = λ e. absurd cc;
+      unparsed = λ e. absurd cc;
       usage_only = λ e. absurd (r.no_usage e);
-      reported = λ e. absurd cc;
       means = λ d e. subst (λ x. Means code x before now err err_now) (same-command c d e) r.means;
       complete = λ d e. subst (λ x. AllWell x before now → (code ≡ wanted_status x before) ⊎ (code ≡ 70)) (same-command c d e) r.complete;
     }

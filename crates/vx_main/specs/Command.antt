@@ -1,12 +1,15 @@
 -- What the words of the program ask for.
-use Rattle.std.specs.Prelude.{◌≡◌, ℕ, ℤ, Bool, true, false, ◌&&◌, ◌==◌, nat_lt, nat_le, if◌then◌else◌, List, [], ◌∷◌, ◌++◌, length, codes, Option, Some, None, is_some, unwrap_or, Result, Ok, Err}
+use Rattle.std.specs.Prelude.{◌≡◌, ℕ, ℤ, Bool, true, false, ◌&&◌, ◌==◌, nat_lt, nat_le, if◌then◌else◌, List, [], ◌∷◌, ◌++◌, length, codes, Option, Some, None, unwrap_or, Result, Ok, Err}
 use Rattle.std.specs.Option.{option_map}
 use Rattle.std.specs.Str.{bytes_eq}
+use Rattle.vx_data.specs.Dtype.{Dtype}
+use Rattle.vx_data.specs.TextsRead.{dtype_of_text}
 use Rattle.vx_main.specs.declared.command.Command.{Command}
-use Rattle.vx_main.specs.declared.command.Command.TheVariants.{Help, Version, Serve, Demo}
+use Rattle.vx_main.specs.declared.command.Command.TheVariants.{Help, Version, Serve, Demo, Sizes}
 use Rattle.vx_file.specs.Hints.{Hints, no_hints}
 use Rattle.vx_main.specs.declared.commands.demo.TheConstants.{MOST_VALUES}
 use Rattle.vx_main.specs.declared.commands.serve.Serve as serve
+use Rattle.vx_main.specs.declared.commands.sizes.Sizes as sizes
 use Rattle.vx_main.specs.declared.failure.Failure.{Failure}
 use Rattle.vx_main.specs.declared.failure.Failure.TheVariants as failures
 use Rattle.vx_main.specs.Numbers.{value_of}
@@ -45,10 +48,17 @@ abbrev pub alone : Command → List (List ℕ) → Option Command
 alone c [] = Some c
 alone c (word ∷ words) = None
 
--- the size of the file, how many bytes the first read is to ask for, and how segments are read
+-- the type that the values of an option spell, where it is given
+abbrev pub optional_dtype : Option (List (List ℕ)) → Option (Option Dtype)
+optional_dtype None = Some None
+optional_dtype (Some []) = None
+optional_dtype (Some (word ∷ [])) = option_map (λ d. Some d) (dtype_of_text word)
+optional_dtype (Some (word ∷ more ∷ words)) = None
+
+-- the size of the file, how many bytes the first read is to ask for, the type of the rows, and how segments are read
 abbrev pub serve_shapes : List OptionShape
 serve_shapes =
-    once (codes "--size") 1 ∷ once (codes "--initial") 1 ∷ once (codes "--distance") 1 ∷ once (codes "--max") 1 ∷ once (codes "--reads") 1 ∷ once (codes "--cache") 1 ∷ []
+    once (codes "--size") 1 ∷ once (codes "--initial") 1 ∷ once (codes "--dtype") 1 ∷ once (codes "--distance") 1 ∷ once (codes "--max") 1 ∷ once (codes "--reads") 1 ∷ once (codes "--cache") 1 ∷ []
 
 abbrev pub reading_by : Option (Option ℕ) → Option (Option ℕ) → Option (Option ℕ) → Option (Option ℕ) → Option ReadingValue
 reading_by None max reads kept = None
@@ -57,11 +67,12 @@ reading_by (Some distance) (Some max) None kept = None
 reading_by (Some distance) (Some max) (Some reads) None = None
 reading_by (Some distance) (Some max) (Some reads) (Some kept) = reading_of distance max reads kept
 
-abbrev pub served_by : List ℕ → Option (Option ℕ) → Option (Option ℕ) → Option ReadingValue → Option serve.Serve
-served_by name None initial reading = None
-served_by name (Some size) None reading = None
-served_by name (Some size) (Some initial) None = None
-served_by name (Some size) (Some initial) (Some reading) = Some (record { name = name; size = size; initial = unwrap_or initial 0; reading = reading })
+abbrev pub served_by : List ℕ → Option (Option ℕ) → Option (Option ℕ) → Option ReadingValue → Option (Option Dtype) → Option serve.Serve
+served_by name None initial reading dtype = None
+served_by name (Some size) None reading dtype = None
+served_by name (Some size) (Some initial) None dtype = None
+served_by name (Some size) (Some initial) (Some reading) dtype =
+    option_map (λ d. record { name = name; size = size; initial = unwrap_or initial 0; reading = reading; dtype = d }) dtype
 
 -- the number of an option of `serve`, where it is given
 abbrev pub serve_number : List (List ℕ) → List ℕ → Option (Option ℕ)
@@ -74,37 +85,55 @@ serve_behind (Some name) words =
     if are_options serve_shapes words then
     served_by name (serve_number words (codes "--size")) (serve_number words (codes "--initial"))
     (reading_by (serve_number words (codes "--distance")) (serve_number words (codes "--max")) (serve_number words (codes "--reads")) (serve_number words (codes "--cache")))
+    (optional_dtype (values_of serve_shapes (codes "--dtype") words))
     else None
 
 abbrev pub serve_of : List (List ℕ) → Option Command
 serve_of [] = None
 serve_of (word ∷ words) = option_map (λ s. Serve s) (serve_behind (name_of word) words)
 
+-- the type of the rows
+abbrev pub sizes_shapes : List OptionShape
+sizes_shapes = once (codes "--dtype") 1 ∷ []
+
+abbrev pub sizes_behind : Option (List ℕ) → List (List ℕ) → Option sizes.Sizes
+sizes_behind None words = None
+sizes_behind (Some name) words =
+    if are_options sizes_shapes words then option_map (λ d. record { name = name; dtype = d }) (optional_dtype (values_of sizes_shapes (codes "--dtype") words)) else None
+
+abbrev pub sizes_of : List (List ℕ) → Option Command
+sizes_of [] = None
+sizes_of (word ∷ words) = option_map (λ s. Sizes s) (sizes_behind (name_of word) words)
+
 -- at least one value, and at most so many
 abbrev pub demo_of : List (List ℕ) → Option Command
 demo_of words = if nat_lt 0 (length words) && nat_le (length words) MOST_VALUES then option_map (λ values. Demo (record { values = values })) (all_values words) else None
 
--- `--help` and `--version` alone, `serve NAME ..`, or `demo V ..`
+-- `--help` and `--version` alone, `serve NAME ..`, `sizes NAME ..`, or `demo V ..`
 abbrev pub command_of : List (List ℕ) → Option Command
 command_of [] = None
 command_of (word ∷ words) =
     if bytes_eq word (codes "serve") then serve_of words
     else if bytes_eq word (codes "demo") then demo_of words
+    else if bytes_eq word (codes "sizes") then sizes_of words
     else if bytes_eq word (codes "--help") then alone Help words
     else if bytes_eq word (codes "--version") then alone Version words
     else None
 
--- what reading a command from words gave, where this is the command
+-- what reading a command from words gave, where this is the command; memory may run out before it is known
 abbrev pub Parses : {A : Type 0} → Option A → Result A Failure → Type 0
 Parses o (Ok command) = o ≡ Some command
 Parses o (Err failures.Usage) = o ≡ None
-Parses o (Err failures.OutOfMemory) = is_some o ≡ true
+Parses o (Err failures.OutOfMemory) = Unit {0}
 Parses o (Err _) = ⊥
 
 -- ---- what a command touches
 
 abbrev pub serve_hints : serve.Serve → Hints
-serve_hints s = record { size = s.size; initial = s.initial; dtype = None }
+serve_hints s = record { size = s.size; initial = s.initial; dtype = s.dtype; footer = None }
+
+abbrev pub sizes_hints : sizes.Sizes → Hints
+sizes_hints s = record { size = None; initial = 0; dtype = s.dtype; footer = None }
 
 -- what it is told of the file that it opens
 abbrev pub hints_of : Command → Hints
@@ -112,6 +141,7 @@ hints_of Help = no_hints
 hints_of Version = no_hints
 hints_of (Serve s) = serve_hints s
 hints_of (Demo d) = no_hints
+hints_of (Sizes s) = sizes_hints s
 
 -- the names of the files that it opens
 abbrev pub names_of : Command → List (List ℕ)
@@ -119,6 +149,7 @@ names_of Help = []
 names_of Version = []
 names_of (Serve s) = s.name ∷ []
 names_of (Demo d) = []
+names_of (Sizes s) = s.name ∷ []
 
 -- whether it reads a script from its input
 abbrev pub reads_script : Command → Bool
@@ -126,3 +157,4 @@ reads_script Help = false
 reads_script Version = false
 reads_script (Serve s) = true
 reads_script (Demo d) = true
+reads_script (Sizes s) = false

@@ -1,5 +1,5 @@
 -- The failures of the program: each with its status, its line, and its cause.
-use Rattle.std.specs.Prelude.{◌≡◌, ℕ, true, List, [], ◌∷◌, ◌++◌, codes, decimal, Some, ◌⊎◌}
+use Rattle.std.specs.Prelude.{◌≡◌, ℕ, Bool, true, false, List, [], ◌∷◌, ◌++◌, codes, decimal, Some, ◌⊎◌}
 use Rattle.vx_base.specs.Counts.{Rises}
 use Rattle.vx_base.specs.Openers.{OpenerState, AsksFor}
 use Rattle.vx_base.specs.Streams.{SourceState, TookPrefix}
@@ -10,13 +10,14 @@ use Rattle.vx_sched.specs.declared.fault.Place.TheVariants.{Size, Range}
 use Rattle.vx_file.specs.declared.step.Step.{Step}
 use Rattle.vx_main.specs.declared.answer.Answer.{Answer}
 use Rattle.vx_main.specs.declared.command.Command.{Command}
-use Rattle.vx_main.specs.declared.command.Command.TheVariants.{Help, Version, Serve, Demo}
+use Rattle.vx_main.specs.declared.command.Command.TheVariants.{Help, Version, Serve, Demo, Sizes}
 use Rattle.vx_main.specs.declared.failure.Failure.{Failure}
 use Rattle.vx_main.specs.declared.failure.Failure.TheVariants as failures
 use Rattle.vx_file.specs.Hints.{IsSizeOf}
+use Rattle.vx_file.specs.Plans.{plan_of}
 use Rattle.vx_main.specs.Command.{names_of, reads_script, hints_of}
 use Rattle.vx_main.specs.Input.{ReadsScript, BadLine, BadLength}
-use Rattle.vx_main.specs.Outputs.{IsAnswer, text_of, Deserves}
+use Rattle.vx_main.specs.Outputs.{IsAnswer, text_of, Deserves, LacksSegment}
 use Rattle.vx_main.specs.Outside.{Outside}
 use Rattle.vx_main.specs.Refusals.{refusal_words}
 use Rattle.vx_main.specs.Render.{fault_words}
@@ -28,6 +29,7 @@ abbrev pub status_of : Failure → ℕ
 status_of failures.Usage = 2
 status_of (failures.Line line) = 3
 status_of (failures.Refused refusal) = 4
+status_of failures.MissingSegment = 4
 status_of (failures.Read fault) = 5
 status_of failures.Input = 6
 status_of failures.Output = 7
@@ -44,6 +46,7 @@ abbrev pub failure_words : Failure → List ℕ
 failure_words failures.Usage = codes "usage"
 failure_words (failures.Line line) = codes "line " ++ decimal line
 failure_words (failures.Refused refusal) = refusal_words refusal
+failure_words failures.MissingSegment = codes "MissingSegment"
 failure_words (failures.Read fault) = codes "read " ++ read_words fault fault.place
 failure_words failures.Input = codes "input"
 failure_words failures.Output = codes "output"
@@ -72,11 +75,15 @@ pub record BadInput (c : Command) (before now : Outside) (code : ℕ) (Wants : S
 abbrev pub SourceFails : SourceState → SourceState → Type 0
 SourceFails before now = Rises 1 before.faults now.faults
 
--- the script was read, and the one file of the command was asked for: nothing was printed
+-- the script was read, where the command reads one, or else the input was not touched
+abbrev pub ReadsInput : Bool → SourceState → SourceState → Type 0
+ReadsInput true before now = (steps : List Step) × ReadsScript before now steps
+ReadsInput false before now = now ≡ before
+
+-- the input was read, where the command reads it, and the one file of the command was asked for: nothing was printed
 pub record Asks (c : Command) (before now : Outside) (name : List ℕ) : Type 0 where
   pub named : names_of c ≡ name ∷ []
-  pub steps : List Step
-  pub script : ReadsScript before.source now.source steps
+  pub input : ReadsInput (reads_script c) before.source now.source
   pub asked : AsksFor name before.files now.files
   pub out : now.out ≡ before.out
 
@@ -92,7 +99,7 @@ pub record ReadFault (c : Command) (before now : Outside) (fault : Fault) : Type
   pub back : GaveBack name before.files now.files
   pub rose : Rises 1 before.files.read_faults now.files.read_faults
   pub lacks : (file : List ℕ) → before.files.file name ≡ Some file → IsSizeOf (hints_of c).size file →
-      LacksSize (hints_of c) name fault before.files now.files ⊎ LacksTail (hints_of c) file name fault before.files now.files
+      LacksSize (plan_of (hints_of c) file) name fault before.files now.files ⊎ LacksTail (plan_of (hints_of c) file) name fault before.files now.files
 
 -- the file fails an opening check, and its reader was given back
 pub record Refusal (c : Command) (before now : Outside) (refusal : OpenError) : Type 0 where
@@ -100,7 +107,15 @@ pub record Refusal (c : Command) (before now : Outside) (refusal : OpenError) : 
   pub asks : Asks c before now name
   pub back : GaveBack name before.files now.files
   pub refuses : (file : List ℕ) → before.files.file name ≡ Some file → IsSizeOf (hints_of c).size file →
-      RefusesFile (hints_of c) file name refusal before.files now.files
+      RefusesFile (plan_of (hints_of c) file) name refusal before.files now.files
+  pub deserved : Deserves c before 4
+
+-- the layout of the file names a segment that the file has not, and its reader was given back
+pub record Lacking (c : Command) (before now : Outside) : Type 0 where
+  pub name : List ℕ
+  pub asks : Asks c before now name
+  pub back : GaveBack name before.files now.files
+  pub lacks : (file : List ℕ) → before.files.file name ≡ Some file → LacksSegment (hints_of c) file
   pub deserved : Deserves c before 4
 
 -- a write of the answer's text failed, and a prefix of it stands on the output
@@ -124,6 +139,7 @@ LeavesFiles Help before now = now ≡ before
 LeavesFiles Version before now = now ≡ before
 LeavesFiles (Serve s) before now = LeavesOpener s.name before now
 LeavesFiles (Demo d) before now = now ≡ before
+LeavesFiles (Sizes s) before now = LeavesOpener s.name before now
 
 -- memory ran out
 pub record Stopped (c : Command) (before now : Outside) : Type 0 where
@@ -139,5 +155,6 @@ HasCause c before now failures.Input = ScriptFault c before now SourceFails
 HasCause c before now (failures.Open name) = OpenFault c before now name
 HasCause c before now (failures.Read fault) = ReadFault c before now fault
 HasCause c before now (failures.Refused refusal) = Refusal c before now refusal
+HasCause c before now failures.MissingSegment = Lacking c before now
 HasCause c before now failures.Output = OutputFault c before now
 HasCause c before now failures.OutOfMemory = Stopped c before now

@@ -2,7 +2,7 @@
 use Rattle.std.specs.Prelude.{ℕ, List, ◌++◌, codes}
 
 abbrev pub what_help : List ℕ
-what_help = codes "vx serves the segments of a columnar file by a script of requests.\n\n"
+what_help = codes "vx serves the segments of columnar files and tells how large their fields are.\n\n"
 
 abbrev pub usage_help : List ℕ
 usage_help = codes "usage: vx COMMAND\n\n"
@@ -22,6 +22,9 @@ size_help = codes "      --size N      the file has N bytes: its size is not ask
 abbrev pub initial_help : List ℕ
 initial_help = codes "      --initial N   the first read asks for the last N bytes, 65535 at least\n"
 
+abbrev pub dtype_help : List ℕ
+dtype_help = codes "      --dtype D     the rows have the type D: the file's own is not read\n"
+
 abbrev pub distance_help : List ℕ
 distance_help = codes "      --distance D  reads at most D bytes apart are merged, and --max M: into one\n                    of at most M bytes\n"
 
@@ -31,8 +34,11 @@ reads_help = codes "      --reads K     one call asks for at most K ranges, 1 to
 abbrev pub cache_help : List ℕ
 cache_help = codes "      --cache N     the N segments used last are kept, 1 to 65536\n"
 
+abbrev pub sizes_help : List ℕ
+sizes_help = codes "  sizes NAME    prints how many bytes each field of the file NAME takes\n      --dtype D     the rows have the type D: the file's own is not read\n"
+
 abbrev pub demo_help : List ℕ
-demo_help = codes "  demo V ..     the same with a file of the values V, 1 to 8192 numbers of 32\n                bits, which it writes to memory\n"
+demo_help = codes "  demo V ..     serves a file of the values V, 1 to 8192 numbers of 32 bits,\n                which it writes to memory\n"
 
 abbrev pub texts_help : List ℕ
 texts_help = codes "  --help        prints this text\n  --version     prints the version\n"
@@ -72,5 +78,5 @@ example_help = codes "example\n  printf 'r 0\\np 0\\n' | vx demo 1 2 3 4\n"
 
 abbrev pub help_text : List ℕ
 help_text =
-    what_help ++ usage_help ++ commands_help ++ serve_help ++ serve_more_help ++ size_help ++ initial_help ++ distance_help ++ reads_help ++ cache_help ++ demo_help ++ texts_help ++ options_help
+    what_help ++ usage_help ++ commands_help ++ serve_help ++ serve_more_help ++ size_help ++ initial_help ++ dtype_help ++ distance_help ++ reads_help ++ cache_help ++ sizes_help ++ demo_help ++ texts_help ++ options_help
     ++ script_help ++ register_help ++ poll_help ++ drop_help ++ drive_help ++ statuses_help ++ statuses_2_help ++ statuses_3_help ++ statuses_4_help ++ example_help

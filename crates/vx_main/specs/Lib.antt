@@ -14,6 +14,8 @@ pub mod Render
 pub mod Runs
 pub mod Script
 pub mod Served
+pub mod Sizes
+pub mod SizesText
 pub mod Statuses
 pub mod Streams
 pub mod Text

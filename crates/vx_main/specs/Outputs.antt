@@ -1,6 +1,9 @@
 -- What each command prints, and the status that it deserves.
 use Rattle.std.specs.Prelude.{◌≡◌, ℕ, ℤ, true, List, length, codes, Option, Some, None, is_some, Result, Ok, Err, nat_lt, if◌then◌else◌}
-use Rattle.vx_base.specs.Openers.{AsksFor}
+use Rattle.vx_base.specs.Openers.{OpenerState, AsksFor}
+use Rattle.vx_footer.specs.declared.error.OpenError.{OpenError}
+use Rattle.vx_footer.specs.FieldSizes.{SizeList, AreSizes, missing}
+use Rattle.vx_footer.specs.Footers.{FooterContent}
 use Rattle.vx_footer.specs.Opening.{vx_grammar}
 use Rattle.vx_file.specs.declared.step.Step.{Step}
 use Rattle.vx_file.specs.declared.served.Served.{Served}
@@ -8,10 +11,12 @@ use Rattle.vx_write.specs.Column.{written}
 use Rattle.vx_main.specs.declared.answer.Answer.{Answer}
 use Rattle.vx_main.specs.declared.answer.Answer.TheVariants as answers
 use Rattle.vx_main.specs.declared.command.Command.{Command}
-use Rattle.vx_main.specs.declared.command.Command.TheVariants.{Help, Version, Serve, Demo}
+use Rattle.vx_main.specs.declared.command.Command.TheVariants.{Help, Version, Serve, Demo, Sizes}
 use Rattle.vx_main.specs.declared.input.TheConstants.{MOST_INPUT}
 use Rattle.vx_file.specs.Hints.{Hints, IsSizeOf}
-use Rattle.vx_main.specs.Command.{serve_hints}
+use Rattle.vx_file.specs.Plans.{plan_of}
+use Rattle.vx_file.specs.Ranges.{tail_ranges, opened}
+use Rattle.vx_main.specs.Command.{serve_hints, sizes_hints}
 use Rattle.vx_main.specs.Demo.{Demonstrates}
 use Rattle.vx_main.specs.Help.{help_text}
 use Rattle.vx_main.specs.Input.{ReadsScript}
@@ -19,7 +24,8 @@ use Rattle.vx_main.specs.Outside.{Outside}
 use Rattle.vx_main.specs.Reading.{ReadingValue, settings_by, new_cache}
 use Rattle.vx_main.specs.Render.{render_text}
 use Rattle.vx_main.specs.Script.{script_of}
-use Rattle.vx_main.specs.Served.{ServesFile, GaveBack}
+use Rattle.vx_main.specs.Served.{ServesFile, GaveBack, GivesBack}
+use Rattle.vx_main.specs.SizesText.{sizes_text}
 
 -- ---- texts
 
@@ -31,6 +37,7 @@ abbrev pub text_of : Answer → List ℕ
 text_of answers.Help = help_text
 text_of answers.Version = version_text
 text_of (answers.Served served) = render_text served
+text_of (answers.Sizes sizes) = sizes_text sizes.entries
 
 -- a fixed text, for which nothing was read and no file was opened
 pub record IsFixed (fixed : Answer) (before now : Outside) (answer : Answer) : Type 0 where
@@ -47,7 +54,7 @@ pub record IsServed (hints : Hints) (reading : ReadingValue) (name : List ℕ) (
   pub asked : AsksFor name before.files now.files
   pub back : GaveBack name before.files now.files
   pub serves : (file : List ℕ) → before.files.file name ≡ Some file → IsSizeOf hints.size file →
-      ServesFile hints (settings_by reading (before.files.settings name)) (new_cache reading.kept) file name steps before.files now.files served
+      ServesFile (plan_of hints file) (settings_by reading (before.files.settings name)) (new_cache reading.kept) file name steps before.files now.files served
 
 -- the script of the input was served from the file of some values, and no file was opened
 pub record IsDemonstrated (values : List ℤ) (before now : Outside) (answer : Answer) : Type 0 where
@@ -58,12 +65,37 @@ pub record IsDemonstrated (values : List ℤ) (before now : Outside) (answer : A
   pub demonstrates : Demonstrates values steps served
   pub files : now.files ≡ before.files
 
+-- a file of the grammar was opened, each segment that its layout names is there, and its fields have these sizes
+pub record Measures (hints : Hints) (file name : List ℕ) (before now : OpenerState) (sizes : SizeList) : Type 0 where
+  pub footer : FooterContent
+  pub grammar : vx_grammar file hints.dtype ≡ Ok footer
+  pub there : missing footer.layout footer.segments ≡ None
+  pub sizes_are : AreSizes footer.layout footer.segments sizes
+  pub back : GivesBack name before now (opened (tail_ranges hints file))
+
+-- a file of the grammar whose layout names a segment that the file has not
+pub record LacksSegment (hints : Hints) (file : List ℕ) : Type 0 where
+  pub footer : FooterContent
+  pub grammar : vx_grammar file hints.dtype ≡ Ok footer
+  pub id : ℕ
+  pub lacks : missing footer.layout footer.segments ≡ Some id
+
+-- the sizes of the fields of the file of a name, and the input was not touched
+pub record IsMeasured (hints : Hints) (name : List ℕ) (before now : Outside) (answer : Answer) : Type 0 where
+  pub sizes : SizeList
+  pub is : answer ≡ answers.Sizes sizes
+  pub source : now.source ≡ before.source
+  pub asked : AsksFor name before.files now.files
+  pub back : GaveBack name before.files now.files
+  pub measures : (file : List ℕ) → before.files.file name ≡ Some file → Measures hints file name before.files now.files sizes
+
 -- what each command answers
 abbrev pub IsAnswer : Command → Outside → Outside → Answer → Type 0
 IsAnswer Help before now answer = IsFixed answers.Help before now answer
 IsAnswer Version before now answer = IsFixed answers.Version before now answer
 IsAnswer (Serve s) before now answer = IsServed (serve_hints s) s.reading s.name before now answer
 IsAnswer (Demo d) before now answer = IsDemonstrated d.values before now answer
+IsAnswer (Sizes s) before now answer = IsMeasured (sizes_hints s) s.name before now answer
 
 -- ---- the status that a command deserves
 
@@ -84,12 +116,26 @@ abbrev pub file_status : Hints → Option (List ℕ) → ℕ
 file_status hints None = 0
 file_status hints (Some file) = grammar_status (vx_grammar file hints.dtype)
 
+-- a file whose layout names a segment that is not there has no sizes
+abbrev pub missing_status : Option ℕ → ℕ
+missing_status None = 0
+missing_status (Some id) = 4
+
+abbrev pub sizes_status : Result FooterContent OpenError → ℕ
+sizes_status (Ok footer) = missing_status (missing footer.layout footer.segments)
+sizes_status (Err refusal) = 4
+
+abbrev pub measured_status : Hints → Option (List ℕ) → ℕ
+measured_status hints None = 0
+measured_status hints (Some file) = sizes_status (vx_grammar file hints.dtype)
+
 -- the status that the words, the input and the file deserve
 abbrev pub wanted_status : Command → Outside → ℕ
 wanted_status Help before = 0
 wanted_status Version before = 0
 wanted_status (Serve s) before = input_status before.source.rest (file_status (serve_hints s) (before.files.file s.name))
 wanted_status (Demo d) before = input_status before.source.rest (grammar_status (vx_grammar (written d.values) None))
+wanted_status (Sizes s) before = measured_status (sizes_hints s) (before.files.file s.name)
 
 -- a size that is supplied is that of the file, where the file is told
 abbrev pub IsTrueSize : Option ℕ → Option (List ℕ) → Type 0
@@ -102,6 +148,7 @@ IsTold Help before = Unit {0}
 IsTold Version before = Unit {0}
 IsTold (Serve s) before = (is_some before.source.rest ≡ true) × (is_some (before.files.file s.name) ≡ true) × IsTrueSize s.size (before.files.file s.name)
 IsTold (Demo d) before = is_some before.source.rest ≡ true
+IsTold (Sizes s) before = is_some (before.files.file s.name) ≡ true
 
 abbrev pub Deserves : Command → Outside → ℕ → Type 0
 Deserves c before code = IsTold c before → wanted_status c before ≡ code

@@ -12,6 +12,10 @@ pub record ReadingValue : Type 0 where
   pub reads : Option ℕ
   pub kept : Option ℕ
 
+-- nothing is said
+abbrev pub plain_reading : ReadingValue
+plain_reading = record { distance = None; max_read_size = None; reads = None; kept = None }
+
 -- a number is from one to the most, where it is said
 abbrev pub is_from_one : ℕ → Option ℕ → Bool
 is_from_one most None = true

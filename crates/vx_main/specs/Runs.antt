@@ -36,9 +36,13 @@ pub record Prints (c : Command) (before now : Outside) : Type 0 where
   pub took : Took (text_of answer) before.out.gained now.out.gained
   pub flushed : now.out.is_flushed ≡ true
 
+-- the words are no command, or there was no memory to tell
+abbrev pub IsUnparsed : Result (Unit {0}) Failure → Type 0
+IsUnparsed result = (result ≡ Err failures.Usage) ⊎ (result ≡ Err failures.OutOfMemory)
+
 -- words that are no command touch nothing
 abbrev pub Performs : Option Command → Outside → Outside → Result (Unit {0}) Failure → Type 0
-Performs None before now result = (result ≡ Err failures.Usage) × (now ≡ before)
+Performs None before now result = IsUnparsed result × (now ≡ before)
 Performs (Some c) before now (Ok _) = Prints c before now
 Performs (Some c) before now (Err failure) = HasCause c before now failure
 

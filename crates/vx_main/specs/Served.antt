@@ -1,5 +1,5 @@
 -- What serving the file of a name by a script gives.
-use Rattle.std.specs.Prelude.{◌≡◌, ℕ, List, [], ◌∷◌, ◌++◌, Option, Some, None, Result, Ok, Err, ◌⊎◌}
+use Rattle.std.specs.Prelude.{◌≡◌, ℕ, true, List, [], ◌∷◌, ◌++◌, Option, Some, None, Result, Ok, Err, ◌⊎◌}
 use Rattle.std.specs.Option.{option_map}
 use Rattle.vx_base.specs.Asking.{Log}
 use Rattle.vx_base.specs.Counts.{Rises}
@@ -7,15 +7,15 @@ use Rattle.vx_base.specs.Openers.{OpenerState, Returned, AsksFor}
 use Rattle.vx_base.specs.Caches.{CacheState}
 use Rattle.vx_base.specs.Readers.{ReaderState, ReaderSettings}
 use Rattle.vx_footer.specs.declared.error.OpenError.{OpenError}
-use Rattle.vx_footer.specs.Opening.{vx_grammar}
 use Rattle.vx_sched.specs.declared.fault.Fault.{Fault}
 use Rattle.vx_sched.specs.declared.fault.Place.TheVariants.{Range}
 use Rattle.vx_sched.specs.Outcomes.{size_fault}
 use Rattle.vx_file.specs.declared.step.Step.{Step}
 use Rattle.vx_file.specs.declared.served.Served.{Served}
 use Rattle.vx_file.specs.Hints.{Hints, IsSizeOf}
-use Rattle.vx_file.specs.Ranges.{tail_ranges, opened}
-use Rattle.vx_file.specs.Serving.{ServedFrom, RefusedFrom, SizeFault, TailFault, Plays, asked, world_of, covered_by, faulty}
+use Rattle.vx_file.specs.Plans.{Plan, plan_of, world_of, covered_by}
+use Rattle.vx_file.specs.Ranges.{opened}
+use Rattle.vx_file.specs.Serving.{ServedFrom, RefusedFrom, SizeFault, TailFault, Plays, asked, faulty}
 use Rattle.vx_file.specs.Scripts.{bad_replies, cache_failures}
 use Rattle.vx_main.specs.declared.failure.Failure.{Failure}
 use Rattle.vx_main.specs.declared.failure.Failure.TheVariants as failures
@@ -23,9 +23,9 @@ use Rattle.vx_main.specs.declared.failure.Failure.TheVariants as failures
 -- ---- by a reader
 
 abbrev pub ReaderCause : Hints → List ℕ → List Step → ReaderState → ReaderState → CacheState → CacheState → Result Served Failure → Type 0
-ReaderCause hints file script before now cache cache_now (Ok served) = ServedFrom hints file script before now cache cache_now served
-ReaderCause hints file script before now cache cache_now (Err (failures.Read fault)) = SizeFault hints before now fault ⊎ TailFault hints file before now fault
-ReaderCause hints file script before now cache cache_now (Err (failures.Refused refusal)) = RefusedFrom hints file before now refusal
+ReaderCause hints file script before now cache cache_now (Ok served) = ServedFrom (plan_of hints file) file script before now cache cache_now served
+ReaderCause hints file script before now cache cache_now (Err (failures.Read fault)) = SizeFault (plan_of hints file) before now fault ⊎ TailFault (plan_of hints file) before now fault
+ReaderCause hints file script before now cache cache_now (Err (failures.Refused refusal)) = RefusedFrom (plan_of hints file) before now refusal
 ReaderCause hints file script before now cache cache_now (Err failures.OutOfMemory) = Unit {0}
 ReaderCause hints file script before now cache cache_now (Err _) = ⊥
 
@@ -47,32 +47,32 @@ pub record GivesBack (name : List ℕ) (before now : OpenerState) (ranges : Log)
 -- A script was served from the file of a name by a reader with these settings and this cache: the footer is that of
 -- the grammar, a history answers the script, one reply for each step, and the reader had been asked exactly for the
 -- ranges of opening and of the drives. The cache never failed.
-pub record ServesFile (hints : Hints) (settings : ReaderSettings) (cache : CacheState) (file name : List ℕ) (script : List Step) (before now : OpenerState) (served : Served) : Type 0 where
-  pub footer : vx_grammar file hints.dtype ≡ Ok served.footer.content
-  pub opening : served.opening ≡ tail_ranges hints file
+pub record ServesFile (plan : Plan) (settings : ReaderSettings) (cache : CacheState) (file name : List ℕ) (script : List Step) (before now : OpenerState) (served : Served) : Type 0 where
+  pub footer : plan.footer ≡ Ok served.footer.content
+  pub opening : served.opening ≡ plan.ranges
   pub cache_now : CacheState
-  pub plays : Plays (world_of hints file served.footer.content settings) file (covered_by hints file served.footer.content) script cache cache_now served.replies
+  pub plays : Plays (world_of plan served.footer.content settings) file (covered_by plan file served.footer.content) script cache cache_now served.replies
   pub cache_good : cache_failures served.replies ≡ 0
   pub back : GivesBack name before now (asked served)
   pub bad : Rises (bad_replies served.replies) before.read_faults now.read_faults
 
 -- the first check that the file fails has this name, and the reader had been asked for the opening ranges alone
-pub record RefusesFile (hints : Hints) (file name : List ℕ) (refusal : OpenError) (before now : OpenerState) : Type 0 where
-  pub fails : vx_grammar file hints.dtype ≡ Err refusal
-  pub back : GivesBack name before now (opened (tail_ranges hints file))
+pub record RefusesFile (plan : Plan) (name : List ℕ) (refusal : OpenError) (before now : OpenerState) : Type 0 where
+  pub fails : plan.footer ≡ Err refusal
+  pub back : GivesBack name before now (opened plan.ranges)
 
--- the size, which is not supplied, could not be had, and the reader had been asked for no range
-pub record LacksSize (hints : Hints) (name : List ℕ) (fault : Fault) (before now : OpenerState) : Type 0 where
-  pub unknown : hints.size ≡ None
+-- the size could not be had, and the reader had been asked for no range
+pub record LacksSize (plan : Plan) (name : List ℕ) (fault : Fault) (before now : OpenerState) : Type 0 where
+  pub asks : plan.asks_size ≡ true
   pub is : fault ≡ size_fault
   pub back : GivesBack name before now []
 
 -- an opening range could not be read, which the fault names: those before it got their bytes
-pub record LacksTail (hints : Hints) (file name : List ℕ) (fault : Fault) (before now : OpenerState) : Type 0 where
+pub record LacksTail (plan : Plan) (name : List ℕ) (fault : Fault) (before now : OpenerState) : Type 0 where
   pub front : List (ℕ × ℕ)
   pub range : ℕ × ℕ
   pub rest : List (ℕ × ℕ)
-  pub ranges : tail_ranges hints file ≡ front ++ range ∷ rest
+  pub ranges : plan.ranges ≡ front ++ range ∷ rest
   pub place : fault.place ≡ Range range.0 range.1
   pub back : GivesBack name before now (opened front ++ faulty range fault ∷ [])
 
@@ -98,12 +98,12 @@ LeavesOpener name before now = AsksNothing before now ⊎ AskedAndBack name befo
 -- what serving the file of a name gave has its cause
 abbrev pub FileCause : Hints → (ReaderSettings → ReaderSettings) → CacheState → List ℕ → List Step → OpenerState → OpenerState → Result Served Failure → Type 0
 FileCause hints chosen cache name script before now (Ok served) = AsksFor name before now × GaveBack name before now ×
-    ((file : List ℕ) → before.file name ≡ Some file → IsSizeOf hints.size file → ServesFile hints (chosen (before.settings name)) cache file name script before now served)
+    ((file : List ℕ) → before.file name ≡ Some file → IsSizeOf hints.size file → ServesFile (plan_of hints file) (chosen (before.settings name)) cache file name script before now served)
 FileCause hints chosen cache name script before now (Err (failures.Open opened)) = (opened ≡ name) × AsksFor name before now × Rises 1 before.faults now.faults
 FileCause hints chosen cache name script before now (Err (failures.Read fault)) =
     AsksFor name before now × GaveBack name before now × Rises 1 before.read_faults now.read_faults ×
-    ((file : List ℕ) → before.file name ≡ Some file → IsSizeOf hints.size file → LacksSize hints name fault before now ⊎ LacksTail hints file name fault before now)
+    ((file : List ℕ) → before.file name ≡ Some file → IsSizeOf hints.size file → LacksSize (plan_of hints file) name fault before now ⊎ LacksTail (plan_of hints file) name fault before now)
 FileCause hints chosen cache name script before now (Err (failures.Refused refusal)) = AsksFor name before now × GaveBack name before now ×
-    ((file : List ℕ) → before.file name ≡ Some file → IsSizeOf hints.size file → RefusesFile hints file name refusal before now)
+    ((file : List ℕ) → before.file name ≡ Some file → IsSizeOf hints.size file → RefusesFile (plan_of hints file) name refusal before now)
 FileCause hints chosen cache name script before now (Err failures.OutOfMemory) = LeavesOpener name before now
 FileCause hints chosen cache name script before now (Err _) = ⊥

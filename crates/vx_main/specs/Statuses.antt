@@ -11,7 +11,7 @@ use Rattle.vx_main.specs.Command.{names_of, reads_script}
 use Rattle.vx_main.specs.Failures.{HasCause, message_of}
 use Rattle.vx_main.specs.Outputs.{IsTold, wanted_status}
 use Rattle.vx_main.specs.Outside.{Outside, Steady}
-use Rattle.vx_main.specs.Runs.{Prints, Reports}
+use Rattle.vx_main.specs.Runs.{Fails, Prints, Reports}
 
 -- a failure with its cause, and its line on the error stream
 pub record Says (c : Command) (before now : Outside) (err err_now : SinkState) (failure : Failure) : Type 0 where
@@ -22,9 +22,10 @@ pub record Says (c : Command) (before now : Outside) (err err_now : SinkState) (
 abbrev pub SaysLine : Command → Outside → Outside → SinkState → SinkState → Type 0
 SaysLine c before now err err_now = (line : ℕ) × Says c before now err err_now (failures.Line line)
 
--- the file fails some check
+-- the file fails some check, or lacks a segment that its layout names
 abbrev pub SaysRefused : Command → Outside → Outside → SinkState → SinkState → Type 0
-SaysRefused c before now err err_now = (refusal : OpenError) × Says c before now err err_now (failures.Refused refusal)
+SaysRefused c before now err err_now =
+    ((refusal : OpenError) × Says c before now err err_now (failures.Refused refusal)) ⊎ Says c before now err err_now failures.MissingSegment
 
 -- some read failed
 abbrev pub SaysRead : Command → Outside → Outside → SinkState → SinkState → Type 0
@@ -63,11 +64,14 @@ pub record AllWell (c : Command) (before now : Outside) : Type 0 where
   pub files : (name : List ℕ) → names_of c ≡ name ∷ [] → FilesWell before.files now.files
   pub output : Steady before.out.faults now.out.faults
 
--- 2 comes exactly where the words are no command, each other status says what it means, and where all is
--- well it is the one that words, input and file deserve, or 70
+-- words that are no command end with 2, or with 70 where memory ran out before that was known
+abbrev pub EndsUnparsed : SinkState → SinkState → ℕ → Type 0
+EndsUnparsed err err_now code = Fails failures.Usage err err_now code ⊎ Fails failures.OutOfMemory err err_now code
+
+-- 2 comes only where the words are no command, which touch nothing; each other status says what it means; and where all
+-- is well it is the one that words, input and file deserve, or 70
 pub record Statuses (command : Option Command) (before now : Outside) (err err_now : SinkState) (code : ℕ) : Type 0 where
-  pub usage : command ≡ None → code ≡ 2
+  pub unparsed : command ≡ None → EndsUnparsed err err_now code × (now ≡ before)
   pub usage_only : code ≡ 2 → command ≡ None
-  pub reported : command ≡ None → Reports (message_of failures.Usage) err err_now × (now ≡ before)
   pub means : (c : Command) → command ≡ Some c → Means code c before now err err_now
   pub complete : (c : Command) → command ≡ Some c → AllWell c before now → (code ≡ wanted_status c before) ⊎ (code ≡ 70)

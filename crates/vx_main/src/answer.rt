@@ -5,10 +5,12 @@ ghost use Rattle.vx_main.specs.Text.{Adds, Writes};
 
 use crate::print::help::put_help;
 use crate::print::served::put_served;
+use crate::print::sizes::put_sizes;
 use crate::printable::Printable;
 use crate::text::TextOut;
 use std::alloc::Global;
 use vx_base::{Sink, SinkError};
+use vx_footer::CompressedFieldSizes;
 
 const VERSION: &[u8] = b"vx 0.1.0\n";
 
@@ -19,6 +21,8 @@ pub enum Answer {
     Version,
     /// A footer, the opening ranges, and one reply for each step.
     Served(Printable),
+    /// How many bytes each field takes.
+    Sizes(CompressedFieldSizes),
 }
 
 impl Answer {
@@ -29,6 +33,7 @@ impl Answer {
             Answer::Help => put_help(text, out),
             Answer::Version => text.word(out, VERSION),
             Answer::Served(printable) => put_served(printable, text, out),
+            Answer::Sizes(sizes) => put_sizes(sizes, text, out),
         }
     }
 

@@ -7,6 +7,7 @@ ghost use Rattle.vx_main.specs.Runs.{Gathers};
 use crate::answer::Answer;
 use crate::commands::demo::Demo;
 use crate::commands::serve::Serve;
+use crate::commands::sizes::Sizes;
 use crate::failure::Failure;
 use std::alloc::Global;
 use vx_base::{Opener, Source};
@@ -22,6 +23,8 @@ pub enum Command<'a> {
     Serve(Serve<'a>),
     /// Serve a file of values, which is written to memory.
     Demo(Demo),
+    /// Print how many bytes each field of the file of a name takes.
+    Sizes(Sizes<'a>),
 }
 
 /// A command without arguments.
@@ -44,10 +47,13 @@ impl<'a> Command<'a> {
             return Err(Failure::Usage);
         };
         if word.as_str() == "serve" {
-            return Serve::parse(rest);
+            return Serve::parse(alloc, rest);
         }
         if word.as_str() == "demo" {
             return Demo::parse(alloc, rest);
+        }
+        if word.as_str() == "sizes" {
+            return Sizes::parse(alloc, rest);
         }
         if word.as_str() == "--help" {
             return alone(Command::Help, rest);
@@ -73,6 +79,7 @@ impl<'a> Command<'a> {
             Command::Version => Ok(Answer::Version),
             Command::Serve(serve) => serve.answer(alloc, input, files),
             Command::Demo(demo) => demo.answer(alloc, input),
+            Command::Sizes(sizes) => sizes.answer(alloc, files),
         }
     }
 }

@@ -1,3 +1,4 @@
 //! The commands, each with its arguments, how they are parsed, and what it answers.
 pub(crate) mod demo;
 pub(crate) mod serve;
+pub(crate) mod sizes;

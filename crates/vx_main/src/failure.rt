@@ -23,6 +23,8 @@ pub enum Failure<'a> {
     Line(u64),
     /// The file fails an opening check.
     Refused(OpenError),
+    /// The layout of the file names a segment that the file has not.
+    MissingSegment,
     /// The file could not be read.
     Read(Fault),
     /// The input could not be read.
@@ -65,7 +67,7 @@ impl<'a> Failure<'a> {
         match self {
             Failure::Usage => 2,
             Failure::Line(_) => 3,
-            Failure::Refused(_) => 4,
+            Failure::Refused(_) | Failure::MissingSegment => 4,
             Failure::Read(_) => 5,
             Failure::Input => 6,
             Failure::Output => 7,
@@ -85,6 +87,7 @@ impl<'a> Failure<'a> {
                 text.number(err, *line)
             }
             Failure::Refused(refusal) => text.word(err, refusal_name(*refusal).as_bytes()),
+            Failure::MissingSegment => text.word(err, b"MissingSegment"),
             Failure::Read(fault) => put_read(fault, text, err),
             Failure::Input => text.word(err, b"input"),
             Failure::Output => text.word(err, b"output"),

@@ -21,8 +21,10 @@ mod reading;
 #[cfg(test)]
 mod real_tests;
 mod refusal;
+mod row_type;
 mod run;
 mod script;
+mod serving;
 #[cfg(test)]
 mod stream_tests;
 #[cfg(test)]

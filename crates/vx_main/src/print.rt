@@ -5,5 +5,6 @@ pub(crate) mod help;
 pub(crate) mod layout;
 pub(crate) mod reply;
 pub(crate) mod served;
+pub(crate) mod sizes;
 pub(crate) mod statistics;
 pub(crate) mod words;

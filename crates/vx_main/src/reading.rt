@@ -1,7 +1,7 @@
 //! How segments are read: the settings of a reader in place of its own, and a cache.
 ghost use Rattle.std.specs.Prelude.{◌≡◌, ◌≤◌, IfSome};
 ghost use Rattle.vx_base.specs.Readers.{settings_of};
-ghost use Rattle.vx_main.specs.Reading.{reading_of, is_from_one, least_reads, settings_by};
+ghost use Rattle.vx_main.specs.Reading.{plain_reading, reading_of, is_from_one, least_reads, settings_by};
 
 use std::marker::Model;
 use vx_base::{Reader, WithWindow};
@@ -43,6 +43,18 @@ fn is_from_one(most: u64, number: Option<u64>) -> bool
 }
 
 impl Reading {
+    /// Segments are read by the settings of the reader, and none is kept.
+    pub(crate) fn plain() -> Reading
+        ensures { result ≡ plain_reading }
+    {
+        Reading {
+            distance: None,
+            max_read_size: None,
+            reads: None,
+            kept: None,
+        }
+    }
+
     /// How segments are read by these numbers, if they are in their bounds and the greatest read comes with a
     /// distance.
     pub(crate) fn of(

@@ -106,7 +106,7 @@ fn serve_four(alloc: Global, script: &str, file: Vec<u8>, failing: Failing) -> R
 #[test]
 fn words_that_are_no_command_are_usage(rt: HostRuntime) -> Result<(), Fail> {
     let alloc = rt.alloc();
-    let lines: [&[&str]; 16] = [
+    let lines: [&[&str]; 21] = [
         &[],
         &["serve"],
         &["serve", "-x"],
@@ -121,6 +121,11 @@ fn words_that_are_no_command_are_usage(rt: HostRuntime) -> Result<(), Fail> {
         &["serve", "four", "--cache", "0"],
         &["serve", "four", "--cache", "65537"],
         &["serve", "--size", "449", "four"],
+        &["serve", "four", "--dtype", "i3"],
+        &["serve", "four", "--dtype", "i32", "--dtype", "i32"],
+        &["sizes"],
+        &["sizes", "four", "--size", "449"],
+        &["sizes", "four", "--dtype", "{a:i32"],
         &["show", "four"],
         &["--help", "four"],
     ];
@@ -505,6 +510,61 @@ fn a_size_and_a_first_read_are_taken_in_any_order(rt: HostRuntime) -> Result<(),
         assert_eq!(rt; left.status, status);
         assert!(rt; left.out.as_slice().ends_with(end.as_bytes()));
     }
+    Ok(())
+}
+
+#[test]
+fn a_type_that_is_given_is_used(rt: HostRuntime) -> Result<(), Fail> {
+    let alloc = rt.alloc();
+    let rows: [(&[&str], &str); 4] = [
+        (&["serve", "four", "--dtype", "i64"], "rows 4\ndtype i64\n"),
+        (
+            &["serve", "four", "--size", "449", "--dtype", "{a:i32}"],
+            "rows 4\ndtype {a:i32}\n",
+        ),
+        (&["sizes", "four"], "size / 18\n"),
+        (&["sizes", "four", "--dtype", "{a:i32}"], "size / 18\n"),
+    ];
+    for (words, begin) in rows {
+        let nowhere = Failing::nowhere(alloc);
+        let left = run_over(alloc, words, Vec::new(alloc), four(alloc)?, nowhere)?;
+        assert_eq!(rt; left.status, 0);
+        assert!(rt; left.out.as_slice().starts_with(begin.as_bytes()));
+    }
+    Ok(())
+}
+
+// The file without its type.
+fn untyped(alloc: Global) -> Result<Vec<u8>, Fail> {
+    let mut file = four(alloc)?;
+    put(file.as_mut_slice(), 336, &[0x00]);
+    Ok(file)
+}
+
+#[test]
+fn a_file_without_a_type_needs_one(rt: HostRuntime) -> Result<(), Fail> {
+    let alloc = rt.alloc();
+    let rows: [(&[&str], u8, &str, &str); 3] = [
+        (&["sizes", "four"], 4, "", "vx: MissingDType\n"),
+        (&["sizes", "four", "--dtype", "i32"], 0, "size / 18\n", ""),
+        (&["serve", "four", "--dtype", "i32"], 0, FOUR_FOOTER, ""),
+    ];
+    for (words, status, out, err) in rows {
+        let nowhere = Failing::nowhere(alloc);
+        let left = run_over(alloc, words, Vec::new(alloc), untyped(alloc)?, nowhere)?;
+        assert!(rt; left.is(status, out, err));
+    }
+    Ok(())
+}
+
+#[test]
+fn a_layout_that_names_no_segment_has_no_sizes(rt: HostRuntime) -> Result<(), Fail> {
+    let alloc = rt.alloc();
+    let mut file = four(alloc)?;
+    put(file.as_mut_slice(), 87, &[0x01]);
+    let nowhere = Failing::nowhere(alloc);
+    let left = run_over(alloc, &["sizes", "four"], Vec::new(alloc), file, nowhere)?;
+    assert!(rt; left.is(4, "", "vx: MissingSegment\n"));
     Ok(())
 }
 

@@ -1,14 +1,13 @@
 //! `serve NAME ..`: serves the segments of a file by the script on the input.
-ghost use Rattle.std.specs.Prelude.{◌≡◌, ℕ, List, Some, true, map, string_bytes, codes, IfOk};
+ghost use Rattle.std.specs.Prelude.{◌≡◌, Some, map, string_bytes, codes, IfOk};
+ghost use Rattle.std.specs.Option.{option_map};
 ghost use Rattle.vx_base.specs.Openers.{SameOpener};
-ghost use Rattle.vx_base.specs.Readers.{SameReader};
-ghost use Rattle.vx_file.specs.Hints.{IsSizeOf};
-ghost use Rattle.vx_main.specs.Command.{serve_of, serve_behind, serve_shapes, served_by, serve_number, reading_by, serve_hints, Parses};
-ghost use Rattle.vx_main.specs.Options.{are_options};
+ghost use Rattle.vx_main.specs.Command.{serve_of, serve_behind, serve_shapes, served_by, serve_number, reading_by, optional_dtype, serve_hints, Parses};
+ghost use Rattle.vx_main.specs.Options.{are_options, values_of};
 ghost use Rattle.vx_main.specs.Outside.{Keeps, OpenerSteady};
 ghost use Rattle.vx_main.specs.Reading.{settings_by, new_cache};
 ghost use Rattle.vx_main.specs.Runs.{Gathers};
-ghost use Rattle.vx_main.specs.Served.{FileCause, ReaderCause, ReaderFault};
+ghost use Rattle.vx_main.specs.Served.{FileCause};
 ghost use Rattle.vx_main.specs.declared.command.Command.TheVariants as commands;
 
 use crate::answer::Answer;
@@ -19,29 +18,33 @@ use crate::name::Name;
 use crate::options::{Shape, are_options, optional_number, values_of};
 use crate::printable::Printable;
 use crate::reading::Reading;
+use crate::row_type::RowType;
+use crate::serving::serve_name;
 use std::alloc::{AllocError, Global};
-use vx_base::{NoCache, Opener, OpenerError, Reader, SegmentCache, Source};
+use vx_base::{NoCache, Opener, Source};
 use vx_data::VortexSession;
-use vx_file::{ServeError, ServeOptions, Served, Step, serve};
+use vx_file::{ServeOptions, Served, Step};
 use vx_source::LruSegments;
 
-/// The arguments of `serve`: the size of the file, where it is known, how many bytes the first read is to ask
-/// for, and how segments are read.
+/// The arguments of `serve`: the size of the file and the type of its rows, where they are known, how many bytes the
+/// first read is to ask for, and how segments are read.
 #[derive(Drop)]
 pub struct Serve<'a> {
     pub name: Name<'a>,
     pub size: Option<u64>,
     pub initial: u64,
     pub reading: Reading,
+    pub dtype: RowType,
 }
 
 /// The options of `serve`, in any order.
-fn shapes() -> [Shape; 6]
+fn shapes() -> [Shape; 7]
     ensures { result ≡ serve_shapes }
 {
     [
         Shape::once("--size", 1),
         Shape::once("--initial", 1),
+        Shape::once("--dtype", 1),
         Shape::once("--distance", 1),
         Shape::once("--max", 1),
         Shape::once("--reads", 1),
@@ -61,6 +64,14 @@ fn number(words: &[String], option: &str) -> Option<Option<u64>>
 {
     let shapes = shapes();
     optional_number(values_of(&shapes, option, words))
+}
+
+/// The values of the option for the type of the rows, where it is given.
+fn dtype_values(words: &[String]) -> Option<&[String]>
+    ensures { option_map (λ values. map string_bytes values.now) result ≡ values_of serve_shapes (codes "--dtype") (map string_bytes words.now) }
+{
+    let shapes = shapes();
+    values_of(&shapes, "--dtype", words)
 }
 
 /// How segments are read by these numbers, where each is one.
@@ -92,63 +103,9 @@ fn reading(words: &[String]) -> Option<Reading>
     )
 }
 
-/// Serves a script by a reader, over a cache that never fails.
-fn serve_reader<'a, R: Reader, C: SegmentCache>(
-    alloc: Global,
-    options: ServeOptions,
-    cache: &mut C,
-    reader: &mut R,
-    script: &[Step],
-) -> Result<Served, Failure<'a>>
-    requires never { (C.state cache.old).never_fails ≡ true }
-    requires none { (C.state cache.old).faults ≡ 0 }
-    ensures cause { (file : List ℕ) → (R.state reader.old).bytes ≡ Some file → IsSizeOf options.size file →
-        ReaderCause options file script.now (R.state reader.old) (R.state reader.new) (C.state cache.old) (C.state cache.new) result }
-    ensures read { ReaderFault (R.state reader.old) (R.state reader.new) result }
-    ensures steady { (file : List ℕ) → (R.state reader.old).never_fails ≡ true → (R.state reader.old).bytes ≡ Some file →
-        IsSizeOf options.size file → (R.state reader.new).faults ≡ (R.state reader.old).faults }
-    ensures same { SameReader (R.state reader.old) (R.state reader.new) }
-    ensures still { (C.state cache.new).faults ≡ 0 }
-{
-    match serve(alloc, options, cache, reader, script) {
-        Ok(served) => Ok(served),
-        Err(ServeError::Open(refusal)) => Err(Failure::Refused(refusal)),
-        Err(ServeError::Fault(fault)) => Err(Failure::Read(fault)),
-        Err(ServeError::CacheFault) => unreachable!(),
-        Err(ServeError::OutOfMemory) => Err(Failure::OutOfMemory),
-    }
-}
-
-/// Serves a script from the file of a name, over a cache that never fails. The reader is given back.
-fn serve_name<'a, F: Opener, C: SegmentCache>(
-    alloc: Global,
-    files: &mut F,
-    options: ServeOptions,
-    reading: &Reading,
-    cache: &mut C,
-    name: &'a str,
-    script: &[Step],
-) -> Result<Served, Failure<'a>>
-    requires never { (C.state cache.old).never_fails ≡ true }
-    requires none { (C.state cache.old).faults ≡ 0 }
-    ensures cause { FileCause options (settings_by reading.now) (C.state cache.old) name.now script.now (F.state files.old) (F.state files.new) result }
-    ensures steady { OpenerSteady options.size name.now (F.state files.old) (F.state files.new) }
-    ensures same { SameOpener (F.state files.old) (F.state files.new) }
-{
-    let reader = match files.open_named(alloc, name) {
-        Ok(reader) => reader,
-        Err(OpenerError::Failed) => return Err(Failure::Open(Name::of(name))),
-        Err(OpenerError::OutOfMemory) => return Err(Failure::OutOfMemory),
-    };
-    let mut windowed = reading.window(reader);
-    let served = serve_reader(alloc, options, cache, &mut windowed, script);
-    files.take_back(alloc, name, windowed.into_inner())?;
-    served
-}
-
 impl<'a> Serve<'a> {
     /// A name, and options behind it.
-    pub(crate) fn parse(words: &'a [String]) -> Result<Command<'a>, Failure<'a>>
+    pub(crate) fn parse(alloc: Global, words: &'a [String]) -> Result<Command<'a>, Failure<'a>>
         ensures { Parses (serve_of (map string_bytes words.now)) result }
     {
         let [word, rest @ ..] = words else {
@@ -157,45 +114,59 @@ impl<'a> Serve<'a> {
         let Some(name) = Name::parse(word.as_str()) else {
             return Err(Failure::Usage);
         };
-        match Serve::behind(name, rest) {
-            Some(serve) => Ok(Command::Serve(serve)),
-            None => Err(Failure::Usage),
+        match Serve::behind(alloc, name, rest) {
+            Ok(serve) => Ok(Command::Serve(serve)),
+            Err(failure) => Err(failure),
         }
     }
 
     /// The arguments of a name and the options behind it.
-    fn behind(name: Name<'a>, words: &[String]) -> Option<Serve<'a>>
-        ensures { result ≡ serve_behind (Some name.entry) (map string_bytes words.now) }
+    fn behind(alloc: Global, name: Name<'a>, words: &[String]) -> Result<Serve<'a>, Failure<'a>>
+        ensures { Parses (serve_behind (Some name.entry) (map string_bytes words.now)) result }
     {
         if !are_serve_options(words) {
-            return None;
+            return Err(Failure::Usage);
         }
         Serve::of(
+            alloc,
             name,
             number(words, "--size"),
             number(words, "--initial"),
             reading(words),
+            dtype_values(words),
         )
     }
 
     /// The arguments of these, where each is one.
     fn of(
+        alloc: Global,
         name: Name<'a>,
         size: Option<Option<u64>>,
         initial: Option<Option<u64>>,
         reading: Option<Reading>,
-    ) -> Option<Serve<'a>>
-        ensures { result ≡ served_by name.entry size initial reading }
+        dtype: Option<&[String]>,
+    ) -> Result<Serve<'a>, Failure<'a>>
+        ensures { Parses (served_by name.entry size initial reading (optional_dtype (option_map (λ v. map string_bytes v.now) dtype.entry))) result }
     {
-        let size = size?;
-        let initial = initial?.unwrap_or(0);
-        let reading = reading?;
-        Some(Serve {
-            name,
-            size,
-            initial,
-            reading,
-        })
+        let Some(size) = size else {
+            return Err(Failure::Usage);
+        };
+        let Some(initial) = initial else {
+            return Err(Failure::Usage);
+        };
+        let Some(reading) = reading else {
+            return Err(Failure::Usage);
+        };
+        match RowType::parse(alloc, dtype) {
+            Ok(dtype) => Ok(Serve {
+                name,
+                size,
+                initial: initial.unwrap_or(0),
+                reading,
+                dtype,
+            }),
+            Err(failure) => Err(failure),
+        }
     }
 
     /// How the file is opened.
@@ -206,7 +177,8 @@ impl<'a> Serve<'a> {
         Ok(
             options
                 .with_some_file_size(self.size)
-                .with_initial_read_size(self.initial as usize),
+                .with_initial_read_size(self.initial as usize)
+                .with_some_dtype(self.dtype.share(alloc)?),
         )
     }
 

@@ -5,7 +5,7 @@ ghost use Rattle.vx_main.specs.Text.{Adds};
 use crate::text::TextOut;
 use vx_base::Sink;
 
-const WHAT: &[u8] = b"vx serves the segments of a columnar file by a script of requests.\n\n";
+const WHAT: &[u8] = b"vx serves the segments of columnar files and tells how large their fields are.\n\n";
 
 const USAGE: &[u8] = b"usage: vx COMMAND\n\n";
 
@@ -21,6 +21,9 @@ const SIZE: &[u8] = b"      --size N      the file has N bytes: its size is not 
 const INITIAL: &[u8] =
     b"      --initial N   the first read asks for the last N bytes, 65535 at least\n";
 
+const DTYPE: &[u8] =
+    b"      --dtype D     the rows have the type D: the file's own is not read\n";
+
 const DISTANCE: &[u8] =
     b"      --distance D  reads at most D bytes apart are merged, and --max M: into one\n                    of at most M bytes\n";
 
@@ -28,8 +31,11 @@ const READS: &[u8] = b"      --reads K     one call asks for at most K ranges, 1
 
 const CACHE: &[u8] = b"      --cache N     the N segments used last are kept, 1 to 65536\n";
 
+const SIZES: &[u8] =
+    b"  sizes NAME    prints how many bytes each field of the file NAME takes\n      --dtype D     the rows have the type D: the file's own is not read\n";
+
 const DEMO: &[u8] =
-    b"  demo V ..     the same with a file of the values V, 1 to 8192 numbers of 32\n                bits, which it writes to memory\n";
+    b"  demo V ..     serves a file of the values V, 1 to 8192 numbers of 32 bits,\n                which it writes to memory\n";
 
 const TEXTS: &[u8] = b"  --help        prints this text\n  --version     prints the version\n";
 
@@ -69,9 +75,11 @@ pub(crate) fn put_help<S: Sink>(text: &mut TextOut, out: &mut S)
     text.word(out, SERVE_MORE);
     text.word(out, SIZE);
     text.word(out, INITIAL);
+    text.word(out, DTYPE);
     text.word(out, DISTANCE);
     text.word(out, READS);
     text.word(out, CACHE);
+    text.word(out, SIZES);
     text.word(out, DEMO);
     text.word(out, TEXTS);
     text.word(out, OPTIONS);

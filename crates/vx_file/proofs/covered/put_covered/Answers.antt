@@ -1,4 +1,4 @@
-use Rattle.std.proofs.Common.{ℕ, ◌<◌, ◌≤◌, ◌∙◌, length, min, arith}
+use Rattle.std.proofs.Common.{◌<◌, length, min, arith}
 use Rattle.vx_base.specs.Caches.{same_cache, same_cache-then}
 use Rattle.vx_file.proofs.Covering.{place-more, place-end}
 use Rattle.vx_file.proofs.covered.put_covered.Goals as goal

@@ -1,5 +1,5 @@
 use Rattle.std.proofs.Common.{arith}
-use Rattle.vx_file.proofs.Covering.{one-gains, before-gains, ok-all}
+use Rattle.vx_file.proofs.Covering.{one-gains, ok-all}
 use Rattle.vx_file.proofs.covered.put_one.Goals as goal
 
 pub returns-clause-gains : goal.returns-clause-gains

@@ -1,4 +1,4 @@
-use Rattle.std.proofs.Common.{rules, ◌≡◌, ◌+◌, ◌∙◌, ap, true, false, Err, length}
+use Rattle.std.proofs.Common.{rules, ◌≡◌, ◌+◌, true, false, Err, length}
 use Rattle.std.specs.List.{list_all}
 use Rattle.vx_footer.specs.Footers.{segment_table}
 use Rattle.vx_footer.specs.Opening.{ends_within}

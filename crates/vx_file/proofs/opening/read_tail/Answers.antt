@@ -1,4 +1,4 @@
-use Rattle.std.proofs.Common.{rules, ◌≡◌, ◌+◌, ◌∙◌, length, Ok, Err, subst, arith}
+use Rattle.std.proofs.Common.{rules, ◌≡◌, ◌∙◌, Ok, Err, subst, arith}
 use Rattle.vx_footer.specs.declared.deserializer.DeserializeStep.TheVariants.{NeedMoreData, Done}
 use Rattle.vx_file.specs.declared.opening.Look.{Look}
 use Rattle.vx_file.specs.Tails.{tail_step, Looks}

@@ -1,5 +1,4 @@
-use Rattle.std.proofs.Common.{◌∙◌, sym, subst, ap, Option, List, ℕ}
-use Rattle.vx_base.specs.Asking.{Log}
+use Rattle.std.proofs.Common.{sym, subst, List}
 use Rattle.vx_base.specs.declared.segment.SegmentSpec.{SegmentSpec}
 use Rattle.vx_source.specs.Bytes.{TellsSlices}
 use Rattle.vx_source.specs.declared.reply.Reply.TheVariants.{Driven}

@@ -1,4 +1,4 @@
-use Rattle.std.proofs.Common.{◌∙◌, ◌+◌, ◌≤◌, length, refl, arith}
+use Rattle.std.proofs.Common.{◌∙◌, refl, arith}
 use Rattle.vx_base.specs.Caches.{same_cache, same_cache-then}
 use Rattle.vx_base.specs.Readers.{same_reader, same_reader-then}
 use Rattle.vx_file.specs.declared.step.Step.TheVariants.{Register}

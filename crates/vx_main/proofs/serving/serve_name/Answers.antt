@@ -6,7 +6,7 @@ use Rattle.vx_base.specs.Openers.{Returned}
 use Rattle.vx_base.specs.Readers.{ReaderState}
 use Rattle.vx_main.specs.Reading.{settings_by}
 use Rattle.vx_main.proofs.Openings.{Lent, file-cause}
-use Rattle.vx_main.proofs.commands.serve.serve_name.Goals as goal
+use Rattle.vx_main.proofs.serving.serve_name.Goals as goal
 
 pub returns-clause-cause : goal.returns-clause-cause
 returns-clause-cause g c =
