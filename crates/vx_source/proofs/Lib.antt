@@ -3,6 +3,8 @@ pub mod BytesLemmas
 pub mod CutLemmas
 pub mod DriveLemmas
 pub mod EndLemmas
+pub mod AnswerLemmas
+pub mod FetchLemmas
 pub mod FilingLemmas
 pub mod FreshLemmas
 pub mod FrontLemmas

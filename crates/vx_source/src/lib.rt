@@ -3,6 +3,7 @@
 #![tactic(auto)]
 
 mod buffer_source;
+mod fetching;
 mod filing;
 mod initial;
 mod law;
@@ -21,6 +22,7 @@ mod telling;
 mod tests;
 
 pub use buffer_source::BufferSegmentSource;
+pub use fetching::Fetched;
 pub use initial::InitialReadSegmentCache;
 pub use law::law_of_sessions;
 pub use lru_segments::LruSegments;

@@ -283,6 +283,35 @@ fn the_tail_is_looked_at_before_the_cache(rt: HostRuntime) -> Result<(), Fail> {
     )
 }
 
+// A session for three segments, at 0, 4 and 12, that merges reads at most 2 bytes apart.
+fn three_segments(alloc: Global) -> Result<Session, Fail> {
+    let segments = vec![in alloc; segment(0), segment(4), segment(12)]?;
+    Ok(Session::new(alloc, segments, Some(2), None, 2, None)?)
+}
+
+#[test]
+fn segments_are_fetched_in_one_drive(rt: HostRuntime) -> Result<(), Fail> {
+    let mut session = three_segments(rt.alloc())?;
+    let wrongs = vec![in rt.alloc();
+        Mischief {
+            at: 1,
+            kind: MischiefKind::Fail
+        },
+    ]?;
+    let mut reader = letters(rt.alloc(), wrongs)?;
+    let mut cache = empty_cache(rt.alloc(), Vec::new(rt.alloc()));
+    let ids = [SegmentId(1), SegmentId(0), SegmentId(3), SegmentId(2)];
+    let wants = [Want::Ready(b'e'), Want::Ready(b'a'), Want::Missing, Want::Failed];
+    assert!(rt; session.made() == 0 && session.concurrency() <= reader.concurrency());
+    let fetched = session.segments(rt.alloc(), &mut reader, &mut cache, &ids)?;
+    assert!(rt; fetched.replies.len() == wants.len() && fetched.spans.len() == 2);
+    for (reply, want) in fetched.replies.as_slice().iter().zip(wants) {
+        assert!(rt; meets(reply, want));
+    }
+    assert!(rt; bad(fetched.spans.as_slice()) == 1 && reader.asked().len() == 2);
+    Ok(())
+}
+
 #[test]
 fn the_segment_that_was_used_least_recently_goes(rt: HostRuntime) -> Result<(), Fail> {
     let mut cache = LruSegments::new(rt.alloc(), 2)?;
