@@ -12,7 +12,7 @@ use Rattle.vx_source.specs.Fits.{World, IsRow, covers, driven}
 use Rattle.vx_source.specs.History.{polls, drives, Moment, moment, made, segment_of, is_held, read_of, outcome_of}
 use Rattle.vx_source.specs.Kept.{Kept}
 use Rattle.vx_source.specs.Puts.{PutsBy}
-use Rattle.vx_source.specs.Stands.{Stands, Registers}
+use Rattle.vx_source.specs.Stands.{Stands, IsNext, Registers}
 use Rattle.vx_source.specs.declared.fetching.Fetch.{Fetch}
 use Rattle.vx_source.specs.declared.fetching.Fetched.{Fetched}
 use Rattle.vx_source.specs.declared.reply.Reply.{Reply}
@@ -28,7 +28,7 @@ rest-at xs i d h = drop-cons xs i d h ∙ ap (λ n. get_or xs i d ∷ drop n xs)
 registering-more : (w : World) (past : List Moment) (before : CacheState) (ids : List SegmentId) (first : List Fetch) (now : List Moment) (after : CacheState) (id : SegmentId) (f : Fetch) (next : List Moment) (last : CacheState)
     → Registering w past before ids first now after → IsRegistered w now after id f next last → Registering w past before (ids ++ id ∷ []) (first ++ f ∷ []) next last
 registering-more w past before [] [] now after id f next last h r =
-    (next, last, subst (λ c. IsRegistered w past c id f next last) h.1 (subst (λ p. IsRegistered w p after id f next last) h.0 r), refl, refl)
+    (next, last, subst (λ c. IsRegistered w past c id f next last) h.1 (subst (λ p. IsRegistered w p after id f next last) h.0 r), (refl, refl))
 registering-more w past before [] (g ∷ more) now after id f next last h r = absurd h
 registering-more w past before (s ∷ rest) [] now after id f next last h r = absurd h
 registering-more w past before (s ∷ rest) (g ∷ more) now after id f next last h r = (h.0, h.1, h.2, registering-more w h.0 h.1 rest more now after id f next last h.3 r)
@@ -53,7 +53,7 @@ registers-one w past before mid after ids i d first k k' reply lt h step =
 
 pub registers-all : (w : World) (past : List Moment) (before after : CacheState) (ids : List SegmentId) (i : ℕ) (first : List Fetch) (k : Kept) → length ids ≤ i
     → RegistersSome w past before after ids (drop i ids) first k → RegistersSome w past before after ids [] first k
-registers-all w past before after ids i first k past_end h = subst (λ rest. RegistersSome w past before after ids rest first k) (drop_all ids i past_end) h
+registers-all w past before after ids i first k past_end h = subst (λ rest. RegistersSome w past before after ids rest first k) (drop_all i ids past_end) h
 
 -- all were registered
 pub registers-whole : (w : World) (past : List Moment) (before after : CacheState) (ids : List SegmentId) (first : List Fetch) (k : Kept)
@@ -151,3 +151,13 @@ pub true-then : (file : List ℕ) (w : World) (past : List Moment) (first rest s
     → ((l : List Fetch) → AreTruePolls file w past (f ∷ rest) l → AreTruePolls file w past first (second ++ l)) → IsTruePoll file w past f.number g.reply
     → AreTruePolls file w past rest more → AreTruePolls file w past first ((second ++ g ∷ []) ++ more)
 true-then file w past first rest second more f g all one h = subst (λ l. AreTruePolls file w past first l) (sym (append_assoc second (g ∷ []) more)) (all (g ∷ more) (one, h))
+
+-- ---- one poll
+
+module _ (w : World) (past : List Moment) (f g : Fetch) (number : ℕ) (reply : Reply) (open_is : f.number ≡ Some number) (is : g ≡ at_poll number reply) where
+  pub poll-next : (k : Kept) → IsNext w past (polls number) reply k → (now : List Moment) × IsPolled w past f.number f g now × Stands w now k
+  poll-next k h = subst (λ o. (now : List Moment) × IsPolled w past o f g now × Stands w now k) (sym open_is)
+      (subst (λ y. (now : List Moment) × IsPolled w past (Some number) f y now × Stands w now k) (sym is) (moment (polls number) reply ∷ past, (refl, h.row, refl), h.stands))
+
+  pub poll-true : (file : List ℕ) → IsTrueReply file w past number reply → IsTruePoll file w past f.number g.reply
+  poll-true file h = subst (λ o. IsTruePoll file w past o g.reply) (sym open_is) (subst (λ (y : Fetch). IsTrueReply file w past number y.reply) (sym is) h)

@@ -49,10 +49,13 @@ Registering w past before (id ∷ rest) (f ∷ more) now after =
 
 -- ---- polls
 
+abbrev pub pending_number : ℕ → Reply → Option ℕ
+pending_number number Pending = Some number
+pending_number number _ = None
+
 -- a request that is polled stays open while it is pending
 abbrev pub at_poll : ℕ → Reply → Fetch
-at_poll number Pending = record { number = Some number; reply = Pending }
-at_poll number reply = record { number = None; reply = reply }
+at_poll number reply = record { number = pending_number number reply; reply = reply }
 
 -- an open request was polled; where none is open nothing was done
 abbrev pub IsPolled : World → List Moment → Option ℕ → Fetch → Fetch → List Moment → Type 0

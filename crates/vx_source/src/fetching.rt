@@ -141,6 +141,7 @@ impl Session {
         requires room { length self.old.requests + length ids.now ≤ u64.MAX }
         ensures fetches { IfOk result (λ fetched. (w : World) (past : List Moment) → Stands w past self.old →
             Fetches w past (C.state cache.old) (C.state cache.new) ids.now fetched self.new) }
+        ensures stands { (w : World) (past : List Moment) → Stands w past self.old → (now : List Moment) × Stands w now self.new }
         ensures answers { IfOk result (λ fetched. (w : World) (past : List Moment) → Stands w past self.old →
             AreAnswers w.table fetched.spans ids.now fetched.replies) }
         ensures log { IfOk result (λ fetched. Grew (asked_by fetched.spans) (R.state reader.old).log (R.state reader.new).log) }

@@ -173,6 +173,8 @@ impl Session {
         ensures stands { (w : World) (past : List Moment) → Stands w past self.old → Stands w [] self.new }
         ensures bytes { (file : List ℕ) → HasBytes file self.old → HasBytes file self.new }
         ensures settings { self.new.idle ≡ self.old.idle }
+        ensures table { self.new.table ≡ self.old.table }
+        ensures made { self.new.requests ≡ [] }
     {
         prove!(self.core.concurrency() >= 1);
         self.core = State::new(
