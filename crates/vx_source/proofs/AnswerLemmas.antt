@@ -13,7 +13,7 @@ use Rattle.vx_source.specs.Fetching.{number_in, at_register, at_poll, IsRegister
 use Rattle.vx_source.specs.Fits.{World, IsRow, asks, covers, is_failing, driven, NoneDue}
 use Rattle.vx_source.specs.History.{Got, registers, polls, drives, Moment, moment, made, segment_of, is_live, is_held, read_of, joinable, joinable_by, if_open, joins, users, users_by, outcome_of, outcome_at, outcome_after, outcome_by, first_of, is_among, is_bad, is_polled, waits, waits_at, is_due}
 use Rattle.vx_source.specs.Kept.{Kept, outcome_in}
-use Rattle.vx_source.specs.Stands.{Stands, words}
+use Rattle.vx_source.specs.Stands.{Stands, IsNext, words}
 use Rattle.vx_source.specs.declared.fetching.Fetch.{Fetch}
 use Rattle.vx_source.specs.declared.reply.FailCause.TheVariants.{Fault, Cache}
 use Rattle.vx_source.specs.declared.reply.Reply.{Reply}
@@ -24,7 +24,7 @@ use Rattle.vx_source.specs.declared.span.SpanOutcome.TheVariants.{Good, Bad}
 use Rattle.vx_source.proofs.WordLemmas.{eq-self, that-self, live-used}
 use Rattle.vx_source.proofs.DriveLemmas.{rises-then}
 use Rattle.vx_source.proofs.SlotLemmas.{get-past}
-use Rattle.vx_source.proofs.FetchLemmas.{SameNumbers, poll-same, polling-same}
+use Rattle.vx_source.proofs.FetchLemmas.{SameNumbers, Waits, poll-same}
 
 -- ---- requests that are open
 
@@ -67,11 +67,12 @@ are-weaker : (table : List SegmentSpec) (P : ℕ → ℕ → Type 0) (a from : �
 are-weaker table P a from [] [] l h = tt
 are-weaker table P a from [] (f ∷ more) l h = absurd h
 are-weaker table P a from (id ∷ rest) [] l h = absurd h
-are-weaker table P a from (id ∷ rest) (f ∷ more) l h = at f.number h.0 h.1
+are-weaker table P a from (id ∷ rest) (f ∷ more) l h = at f.number h.0 h.1 (λ k. are-weaker table P a from rest more l k)
   where
-    at : (o : Option ℕ) → IsAt table P from id.0 f o → AreAt table P (after_number from o) rest more → IsAt table P a id.0 f o × AreAt table P (after_number a o) rest more
-    at None h k = (h, are-weaker table P a from rest more l k)
-    at (Some n) h k = let b = h.0 in ((omega (arith, b, l), h.1), k)
+    at : (o : Option ℕ) → IsAt table P from id.0 f o → AreAt table P (after_number from o) rest more → (AreAt table P from rest more → AreAt table P a rest more)
+        → IsAt table P a id.0 f o × AreAt table P (after_number a o) rest more
+    at None h k less = (h, less k)
+    at (Some n) h k less = let b = h.0 in ((omega (arith, b, l), h.1), k)
 
 -- ---- a number that was made and not yet polled
 
@@ -167,14 +168,15 @@ waiting-through w table P past [] [] (g ∷ gs) now from s n l at p h = absurd p
 waiting-through w table P past [] (f ∷ fs) gs now from s n l at p h = absurd at
 waiting-through w table P past (id ∷ ids) [] gs now from s n l at p h = absurd at
 waiting-through w table P past (id ∷ ids) (f ∷ fs) [] now from s n l at p h = absurd p
-waiting-through w table P past (id ∷ ids) (f ∷ fs) (g ∷ gs) now from s n l at p h = step f.number at.0 at.1 p.1
+waiting-through w table P past (id ∷ ids) (f ∷ fs) (g ∷ gs) now from s n l at p h =
+    step f.number at.0 at.1 p.1 (λ b m rest x. waiting-through w table P p.0 ids fs gs now b s n m rest p.2 x)
   where
-    step : (o : Option ℕ) → IsAt table P from id.0 f o → AreAt table P (after_number from o) ids fs → IsPolled w past o f g p.0 → IsWaiting w now s n
-    step None a rest q = waiting-through w table P p.0 ids fs gs now from s n l rest p.2 (subst (λ x. IsWaiting w x s n) (sym q.1) h)
-    step (Some m) a rest q =
+    step : (o : Option ℕ) → IsAt table P from id.0 f o → AreAt table P (after_number from o) ids fs → IsPolled w past o f g p.0
+        → ((b : ℕ) → n < b → AreAt table P b ids fs → IsWaiting w p.0 s n → IsWaiting w now s n) → IsWaiting w now s n
+    step None a rest q more = more from l rest (subst (λ x. IsWaiting w x s n) (sym q.1) h)
+    step (Some m) a rest q more =
         let b = a.0 in
-        waiting-through w table P p.0 ids fs gs now (m + 1) s n (omega (arith, b, l)) rest p.2
-        (subst (λ x. IsWaiting w x s n) (sym q.2) (waiting-kept w past m s n g.reply q.1 (λ e. absurd (omega (arith, b, l, e))) h))
+        more (m + 1) (omega (arith, b, l)) rest (subst (λ x. IsWaiting w x s n) (sym q.2) (waiting-kept w past m s n g.reply q.1 (λ e. absurd (omega (arith, b, l, e))) h))
 
 -- ---- the first polls
 
@@ -225,14 +227,15 @@ first-polls w past from [] [] (g ∷ gs) now h p = absurd p
 first-polls w past from [] (f ∷ fs) gs now h p = absurd h
 first-polls w past from (id ∷ ids) [] gs now h p = absurd h
 first-polls w past from (id ∷ ids) (f ∷ fs) [] now h p = absurd p
-first-polls w past from (id ∷ ids) (f ∷ fs) (g ∷ gs) now h p = step f.number refl h.0 h.1 p.1
+first-polls w past from (id ∷ ids) (f ∷ fs) (g ∷ gs) now h p = step f.number refl h.0 h.1 p.1 (λ b a. first-polls w p.0 b ids fs gs now a p.2)
   where
     step : (o : Option ℕ) → f.number ≡ o → IsAt w.table (IsOpen w past) from id.0 f o → AreAt w.table (IsOpen w past) (after_number from o) ids fs → IsPolled w past o f g p.0
+        → ((b : ℕ) → AreAt w.table (IsOpen w p.0) b ids fs → AreAt w.table (IsWaiting w now) b ids gs)
         → IsAt w.table (IsWaiting w now) from id.0 g g.number × AreAt w.table (IsWaiting w now) (after_number from g.number) ids gs
-    step None e a rest q =
+    step None e a rest q next =
         join-none w.table (IsWaiting w now) from id.0 ids g gs (ap (λ (x : Fetch). x.number) q.0 ∙ e) (subst (λ (x : Fetch). IsAnswer w.table [] id.0 x.reply) (sym q.0) a)
-        (first-polls w p.0 from ids fs gs now (subst (λ x. AreAt w.table (IsOpen w x) from ids fs) (sym q.1) rest) p.2)
-    step (Some n) e a rest q = found (first-poll w past id.0 n g.reply q.1 a.1)
+        (next from (subst (λ x. AreAt w.table (IsOpen w x) from ids fs) (sym q.1) rest))
+    step (Some n) e a rest q next = found (first-poll w past id.0 n g.reply q.1 a.1)
       where
         low : from ≤ n
         low = a.0
@@ -244,7 +247,7 @@ first-polls w past from (id ∷ ids) (f ∷ fs) (g ∷ gs) now h p = step f.numb
         there = subst (λ x. AreAt w.table (IsOpen w x) (n + 1) ids fs) (sym q.2) moved
 
         more : AreAt w.table (IsWaiting w now) (n + 1) ids gs
-        more = first-polls w p.0 (n + 1) ids fs gs now there p.2
+        more = next (n + 1) there
 
         found : (IsAnswer w.table [] id.0 g.reply × ((at_poll n g.reply).number ≡ None)) ⊎ ((g.reply ≡ Pending) × IsWaiting w (moment (polls n) g.reply ∷ past) id.0 n)
             → IsAt w.table (IsWaiting w now) from id.0 g g.number × AreAt w.table (IsWaiting w now) (after_number from g.number) ids gs
@@ -257,17 +260,16 @@ first-polls w past from (id ∷ ids) (f ∷ fs) (g ∷ gs) now h p = step f.numb
 -- a span that failed is among those that gave a read a failure
 outcome-bad : (spans : List Span) (r : ℕ) (before : Option SpanOutcome) → is_bad before ≡ false → is_bad (outcome_after spans r before) ≡ true → 1 ≤ bad_spans spans
 outcome-bad [] r before fine h = let clash : true ≡ false = sym h ∙ fine in cc
-outcome-bad (span ∷ spans) r before fine h = at before fine (is_among r span.reads) span.outcome refl h
+outcome-bad (span ∷ spans) r before fine h =
+    at (λ x f g. let m = outcome-bad spans r x f g in omega (arith, m)) before fine (is_among r span.reads) span.outcome refl h
   where
-    later : (x : Option SpanOutcome) → is_bad x ≡ false → is_bad (outcome_after spans r x) ≡ true → 1 ≤ is_bad_span span.outcome + bad_spans spans
-    later x f g = let m = outcome-bad spans r x f g in omega (arith, m)
-
-    at : (b : Option SpanOutcome) → is_bad b ≡ false → (c : Bool) (o : SpanOutcome) → span.outcome ≡ o → is_bad (outcome_after spans r (first_of b (cond c (Some span.outcome) None))) ≡ true
+    at : ((x : Option SpanOutcome) → is_bad x ≡ false → is_bad (outcome_after spans r x) ≡ true → 1 ≤ is_bad_span span.outcome + bad_spans spans)
+        → (b : Option SpanOutcome) → is_bad b ≡ false → (c : Bool) (o : SpanOutcome) → span.outcome ≡ o → is_bad (outcome_after spans r (first_of b (cond c (Some span.outcome) None))) ≡ true
         → 1 ≤ is_bad_span span.outcome + bad_spans spans
-    at (Some x) f c o e g = later (Some x) f g
-    at None f false o e g = later None refl g
-    at None f true Good e g = later (Some span.outcome) (ap (λ x. is_bad (Some x)) e) g
-    at None f true (Bad fault) e g = let one = ap is_bad_span e in omega (arith, one)
+    at later (Some x) f c o e g = later (Some x) f g
+    at later None f false o e g = later None refl g
+    at later None f true Good e g = later (Some span.outcome) (ap (λ x. is_bad (Some x)) e) g
+    at later None f true (Bad fault) e g = let one = ap is_bad_span e in omega (arith, one)
 
 due-parts : (a b c : Bool) → a ≡ true → c ≡ true → (a && (b && c)) ≡ false → b ≡ false
 due-parts true true true a c h = cc
@@ -328,18 +330,19 @@ last-polls w spans past from [] [] (g ∷ gs) now h p = absurd p
 last-polls w spans past from [] (f ∷ fs) gs now h p = absurd h
 last-polls w spans past from (id ∷ ids) [] gs now h p = absurd h
 last-polls w spans past from (id ∷ ids) (f ∷ fs) [] now h p = absurd p
-last-polls w spans past from (id ∷ ids) (f ∷ fs) (g ∷ gs) now h p = step f.number h.0 h.1 p.1
+last-polls w spans past from (id ∷ ids) (f ∷ fs) (g ∷ gs) now h p = step f.number h.0 h.1 p.1 (λ b a. last-polls w spans p.0 b ids fs gs now a p.2)
   where
     step : (o : Option ℕ) → IsAt w.table (IsRead w spans past) from id.0 f o → AreAt w.table (IsRead w spans past) (after_number from o) ids fs → IsPolled w past o f g p.0
+        → ((b : ℕ) → AreAt w.table (IsRead w spans p.0) b ids fs → AreAnswers w.table spans ids (map (λ (f : Fetch). f.reply) gs))
         → IsAnswer w.table spans id.0 g.reply × AreAnswers w.table spans ids (map (λ (f : Fetch). f.reply) gs)
-    step None a rest q =
+    step None a rest q more =
         (answer-more w.table spans id.0 g.reply (subst (λ (x : Fetch). IsAnswer w.table [] id.0 x.reply) (sym q.0) a),
-         last-polls w spans p.0 from ids fs gs now (subst (λ x. AreAt w.table (IsRead w spans x) from ids fs) (sym q.1) rest) p.2)
-    step (Some n) a rest q =
+         more from (subst (λ x. AreAt w.table (IsRead w spans x) from ids fs) (sym q.1) rest))
+    step (Some n) a rest q more =
         (last-poll w spans past id.0 n g.reply q.1 a.1,
-         last-polls w spans p.0 (n + 1) ids fs gs now (subst (λ x. AreAt w.table (IsRead w spans x) (n + 1) ids fs) (sym q.2)
+         more (n + 1) (subst (λ x. AreAt w.table (IsRead w spans x) (n + 1) ids fs) (sym q.2)
          (are-map w.table (IsRead w spans past) (IsRead w spans (moment (polls n) g.reply ∷ past)) (n + 1) (n + 1) ids fs (omega arith)
-         (λ s m l x. read-kept w spans past n s m g.reply q.1 (λ is. absurd (omega (arith, l, is))) x) rest)) p.2)
+         (λ s m l x. read-kept w spans past n s m g.reply q.1 (λ is. absurd (omega (arith, l, is))) x) rest)))
 
 -- ---- registers
 
@@ -349,21 +352,21 @@ IsUnread past = (n : ℕ) → made past ≤ n → outcome_of past n ≡ None
 
 -- a register leaves the numbers before as they were
 pub record Joined (past now : List Moment) : Type 0 where
-  pub made : made past ≤ made now
+  pub more : made past ≤ made now
   pub live : (n : ℕ) → n < made past → is_live now n ≡ is_live past n
   pub segment : (n : ℕ) → n < made past → segment_of now n ≡ segment_of past n
   pub read : (n : ℕ) → n < made past → read_of now n ≡ read_of past n
   pub outcome : (r : ℕ) → outcome_of now r ≡ outcome_of past r
 
 joined-none : (past : List Moment) → Joined past past
-joined-none past = record { made = omega arith; live = λ n l. refl; segment = λ n l. refl; read = λ n l. refl; outcome = λ r. refl }
+joined-none past = record { more = omega arith; live = λ n l. refl; segment = λ n l. refl; read = λ n l. refl; outcome = λ r. refl }
 
 joined-then : (a b c : List Moment) → Joined a b → Joined b c → Joined a c
 joined-then a b c h k = record {
-  made = let x = h.made in let y = k.made in omega (arith, x, y);
-  live = λ n l. k.live n (let x = h.made in omega (arith, l, x)) ∙ h.live n l;
-  segment = λ n l. k.segment n (let x = h.made in omega (arith, l, x)) ∙ h.segment n l;
-  read = λ n l. k.read n (let x = h.made in omega (arith, l, x)) ∙ h.read n l;
+  more = let x = h.more in let y = k.more in omega (arith, x, y);
+  live = λ n l. k.live n (let x = h.more in omega (arith, l, x)) ∙ h.live n l;
+  segment = λ n l. k.segment n (let x = h.more in omega (arith, l, x)) ∙ h.segment n l;
+  read = λ n l. k.read n (let x = h.more in omega (arith, l, x)) ∙ h.read n l;
   outcome = λ r. k.outcome r ∙ h.outcome r;
 }
 
@@ -372,23 +375,23 @@ other-number n number bound l e = ne_eqb n number (λ is. absurd (omega (arith, 
 
 register-joins : (w : World) (past : List Moment) (s : ℕ) (got : Got) (reply : Reply) → IsRow w past (registers s got) reply → Joined past (moment (registers s got) reply ∷ past)
 register-joins w past s got (Registered number true) row = record {
-  made = omega arith;
+  more = omega arith;
   live = λ n l. ap (λ b. cond b true (is_live past n)) (other-number n number (made past) l row.1);
   segment = λ n l. ap (λ b. cond b (Some s) (segment_of past n)) (other-number n number (made past) l row.1);
   read = λ n l. ap (λ b. cond b None (read_of past n)) (other-number n number (made past) l row.1);
   outcome = λ r. refl;
 }
 register-joins w past s got (Registered number false) row = record {
-  made = omega arith;
+  more = omega arith;
   live = λ n l. ap (λ b. cond b true (is_live past n)) (other-number n number (made past) l row.1);
   segment = λ n l. ap (λ b. cond b (Some s) (segment_of past n)) (other-number n number (made past) l row.1);
   read = λ n l. ap (λ b. cond b (Some (unwrap_or (joinable past s) number)) (read_of past n)) (other-number n number (made past) l row.1);
   outcome = λ r. refl;
 }
-register-joins w past s got MissingSegment row = record { made = omega arith; live = λ n l. refl; segment = λ n l. refl; read = λ n l. refl; outcome = λ r. refl }
+register-joins w past s got MissingSegment row = record { more = omega arith; live = λ n l. refl; segment = λ n l. refl; read = λ n l. refl; outcome = λ r. refl }
 register-joins w past s got (Ready buffer) row = absurd row
 register-joins w past s got Pending row = absurd row
-register-joins w past s got (Failed cause) row = record { made = omega arith; live = λ n l. refl; segment = λ n l. refl; read = λ n l. refl; outcome = λ r. refl }
+register-joins w past s got (Failed cause) row = record { more = omega arith; live = λ n l. refl; segment = λ n l. refl; read = λ n l. refl; outcome = λ r. refl }
 register-joins w past s got Dropped row = absurd row
 register-joins w past s got NotLive row = absurd row
 register-joins w past s got (Driven spans) row = absurd row
@@ -450,7 +453,7 @@ made-open w past s number got false unread row = record {
 }
 
 unread-joined : (past now : List Moment) → Joined past now → IsUnread past → IsUnread now
-unread-joined past now j h = λ n l. j.outcome n ∙ h n (let m = j.made in omega (arith, m, l))
+unread-joined past now j h = λ n l. j.outcome n ∙ h n (let m = j.more in omega (arith, m, l))
 
 -- after the registers each number that was made is open
 pub registers-open : (w : World) (past : List Moment) (before : CacheState) (ids : List SegmentId) (fs : List Fetch) (now : List Moment) (after : CacheState) → IsUnread past
@@ -458,47 +461,41 @@ pub registers-open : (w : World) (past : List Moment) (before : CacheState) (ids
 registers-open w past before [] [] now after unread h = tt
 registers-open w past before [] (f ∷ fs) now after unread h = absurd h
 registers-open w past before (id ∷ ids) [] now after unread h = absurd h
-registers-open w past before (id ∷ ids) (f ∷ fs) now after unread h = step f.reply refl h.2.row
+registers-open w past before (id ∷ ids) (f ∷ fs) now after unread h =
+    at (registers-open w h.0 h.1 ids fs now after (unread-joined past h.0 (registered-joins w past before id f h.0 h.1 h.2) unread) h.3) f.reply refl h.2.row
   where
     next : List Moment
     next = h.0
-
-    more : AreAt w.table (IsOpen w now) (made next) ids fs
-    more = registers-open w next h.1 ids fs now after (unread-joined past next (registered-joins w past before id f next h.1 h.2) unread) h.3
 
     number-is : f.number ≡ number_in f.reply
     number-is = ap (λ (x : Fetch). x.number) h.2.fetch
 
     -- nothing was made
-    none : (reply : Reply) → f.reply ≡ reply → number_in reply ≡ None → IsAnswer w.table [] id.0 reply → made next ≡ made past
+    none : AreAt w.table (IsOpen w now) (made next) ids fs → (reply : Reply) → f.reply ≡ reply → number_in reply ≡ None → IsAnswer w.table [] id.0 reply → made next ≡ made past
         → IsAt w.table (IsOpen w now) (made past) id.0 f f.number × AreAt w.table (IsOpen w now) (after_number (made past) f.number) ids fs
-    none reply e n a m = join-none w.table (IsOpen w now) (made past) id.0 ids f fs (number-is ∙ ap number_in e ∙ n) (subst (IsAnswer w.table [] id.0) (sym e) a) (subst (λ x. AreAt w.table (IsOpen w now) x ids fs) m more)
+    none more reply e n a m = join-none w.table (IsOpen w now) (made past) id.0 ids f fs (number-is ∙ ap number_in e ∙ n) (subst (IsAnswer w.table [] id.0) (sym e) a) (subst (λ x. AreAt w.table (IsOpen w now) x ids fs) m more)
 
     made-next : (reply : Reply) → f.reply ≡ reply → next ≡ moment (registers id.0 h.2.got) reply ∷ past
     made-next reply e = h.2.history ∙ ap (λ r. moment (registers id.0 h.2.got) r ∷ past) e
 
-    step : (reply : Reply) → f.reply ≡ reply → IsRow w past (registers id.0 h.2.got) f.reply
+    at : AreAt w.table (IsOpen w now) (made next) ids fs → (reply : Reply) → f.reply ≡ reply → IsRow w past (registers id.0 h.2.got) reply
         → IsAt w.table (IsOpen w now) (made past) id.0 f f.number × AreAt w.table (IsOpen w now) (after_number (made past) f.number) ids fs
-    step reply e row = at reply e (subst (IsRow w past (registers id.0 h.2.got)) e row)
-      where
-        at : (reply : Reply) → f.reply ≡ reply → IsRow w past (registers id.0 h.2.got) reply
-            → IsAt w.table (IsOpen w now) (made past) id.0 f f.number × AreAt w.table (IsOpen w now) (after_number (made past) f.number) ids fs
-        at (Registered number held) e row =
-            let is = made-next (Registered number held) e in
-            let count : made next ≡ number + 1 = ap made is ∙ ap (λ n. n + 1) (sym row.1) in
-            let same = row.1 in
-            join-some w.table (IsOpen w now) (made past) id.0 number ids f fs (number-is ∙ ap number_in e) (omega (arith, same))
-            (open-joined w next now id.0 number (omega (arith, count)) (registering-joins w next h.1 ids fs now after h.3)
-            (subst (λ x. IsOpen w x id.0 number) (sym is) (made-open w past id.0 number h.2.got held unread row)))
-            (subst (λ x. AreAt w.table (IsOpen w now) x ids fs) count more)
-        at MissingSegment e row = none MissingSegment e refl row (ap made (made-next MissingSegment e))
-        at (Ready buffer) e row = absurd row
-        at Pending e row = absurd row
-        at (Failed (Fault fault)) e row = absurd row
-        at (Failed Cache) e row = none (Failed Cache) e refl row.0 (ap made (made-next (Failed Cache) e))
-        at Dropped e row = absurd row
-        at NotLive e row = absurd row
-        at (Driven spans) e row = absurd row
+    at more (Registered number held) e row =
+        let is = made-next (Registered number held) e in
+        let count : made next ≡ number + 1 = ap made is ∙ ap (λ n. n + 1) (sym row.1) in
+        let same = row.1 in
+        join-some w.table (IsOpen w now) (made past) id.0 number ids f fs (number-is ∙ ap number_in e) (omega (arith, same))
+        (open-joined w next now id.0 number (omega (arith, count)) (registering-joins w next h.1 ids fs now after h.3)
+        (subst (λ x. IsOpen w x id.0 number) (sym is) (made-open w past id.0 number h.2.got held unread row)))
+        (subst (λ x. AreAt w.table (IsOpen w now) x ids fs) count more)
+    at more MissingSegment e row = none more MissingSegment e refl row (ap made (made-next MissingSegment e))
+    at more (Ready buffer) e row = absurd row
+    at more Pending e row = absurd row
+    at more (Failed (Fault fault)) e row = absurd row
+    at more (Failed Cache) e row = none more (Failed Cache) e refl row.0 (ap made (made-next (Failed Cache) e))
+    at more Dropped e row = absurd row
+    at more NotLive e row = absurd row
+    at more (Driven spans) e row = absurd row
 
 -- no span lists a number that a session did not make
 pub stands-unread : (w : World) (past : List Moment) (k : Kept) → Stands w past k → IsUnread past
@@ -614,3 +611,32 @@ polls-slices file w P past segment from (id ∷ ids) (f ∷ fs) (g ∷ gs) befor
     step : (o : Option ℕ) → IsAt w.table P from id.0 f o → IsPolled w before o f g p.0 → IsTruePoll file w past o g.reply → HasSlice file w.table id.0 g.reply
     step None a q u = subst (λ (x : Fetch). HasSlice file w.table id.0 x.reply) (sym q.0) h.0
     step (Some n) a q u = true-slice file w past id.0 n g.reply (segment id.0 n a.1) u
+
+-- ---- the whole
+
+module _ (w : World) (past : List Moment) (before after : CacheState) (ids : List SegmentId) (first second : List Fetch) (k k0 : Kept) (st : Stands w past k0) (h : Waits w past before after ids first second k) where
+  opened : AreAt w.table (IsOpen w h.registered) (made past) ids first
+  opened = registers-open w past before ids first h.registered after (stands-unread w past k0 st) h.registers
+
+  module _ (spans : List Span) (k' : Kept) (d : IsNext w h.waiting drives (Driven spans) k') where
+    read : AreAt w.table (IsRead w spans (driven spans h.waiting)) (made past) ids second
+    read = are-map w.table (IsWaiting w h.waiting) (IsRead w spans (driven spans h.waiting)) 0 (made past) ids second (omega arith)
+        (λ s n l x. driven-read w h.waiting spans k' s n d.stands d.row.1 x) (first-polls w h.registered (made past) ids first second h.waiting opened h.polls)
+
+    module _ (last : List Fetch) (now : List Moment) (polls : Polling w (driven spans h.waiting) second last now) where
+      pub answers-now : AreAnswers w.table spans ids (map (λ (f : Fetch). f.reply) last)
+      answers-now = last-polls w spans (driven spans h.waiting) (made past) ids second last now read polls
+
+      pub slices-now : (file : List ℕ) → AreTruePolls file w h.registered first second → AreTruePolls file w (driven spans h.waiting) second last
+          → HaveSlices file w.table ids (map (λ (f : Fetch). f.reply) last)
+      slices-now file one two =
+          polls-slices file w (IsRead w spans (driven spans h.waiting)) (driven spans h.waiting) (λ s n x. x.segment) (made past) ids second last (driven spans h.waiting) now read polls two
+          (polls-slices file w (IsOpen w h.registered) h.registered (λ s n x. x.segment) (made past) ids first second h.registered h.waiting opened h.polls one
+          (registers-slices file w past before ids first h.registered after h.registers))
+
+      pub failures-now : (later : CacheState) → after.faults ≤ later.faults → Rises (cache_failures (map (λ (f : Fetch). f.reply) last)) before.faults later.faults
+      failures-now later l =
+          let a = polling-failures w h.registered first second h.waiting h.polls in
+          let b = polling-failures w (driven spans h.waiting) second last now polls in
+          rises-fewer (cache_failures (map (λ (f : Fetch). f.reply) first)) (cache_failures (map (λ (f : Fetch). f.reply) last)) before.faults after.faults later.faults
+          (registering-failures w past before ids first h.registered after h.registers) (omega (arith, a, b)) l

@@ -161,3 +161,89 @@ module _ (w : World) (past : List Moment) (f g : Fetch) (number : ℕ) (reply : 
 
   pub poll-true : (file : List ℕ) → IsTrueReply file w past number reply → IsTruePoll file w past f.number g.reply
   poll-true file h = subst (λ o. IsTruePoll file w past o g.reply) (sym open_is) (subst (λ (y : Fetch). IsTrueReply file w past number y.reply) (sym is) h)
+
+-- ---- the whole
+
+-- segments were registered and polled
+pub record Waits (w : World) (past : List Moment) (before after : CacheState) (ids : List SegmentId) (first second : List Fetch) (k : Kept) : Type 0 where
+  pub registered : List Moment
+  pub registers : Registering w past before ids first registered after
+  pub waiting : List Moment
+  pub polls : Polling w registered first second waiting
+  pub stands : Stands w waiting k
+
+abbrev pub waits-now : (w : World) (past : List Moment) (before after : CacheState) (ids : List SegmentId) (first second : List Fetch) (k k' : Kept) → RegistersSome w past before after ids [] first k
+    → ((h : List Moment) → Stands w h k → PollsSome w h first [] second k') → Waits w past before after ids first second k'
+waits-now w past before after ids first second k k' h polled =
+    let p = polled h.now h.stands in
+    record {
+      registered = h.now;
+      registers = registers-whole w past before after ids first k h;
+      waiting = p.now;
+      polls = polls-whole w h.now first second k' p;
+      stands = p.stands;
+    }
+
+module _ (w : World) (past : List Moment) (before mid after : CacheState) (ids : List SegmentId) (first second : List Fetch) (k : Kept) (h : Waits w past before mid ids first second k) where
+  pub fetches-now : (last : List Fetch) (fetched : Fetched) (k' k'' : Kept) → IsNext w h.waiting drives (Driven fetched.spans) k' → PutsBy h.waiting fetched.spans mid after
+      → PollsSome w (driven fetched.spans h.waiting) second [] last k'' → fetched.replies ≡ map (λ (f : Fetch). f.reply) last → Fetches w past before after ids fetched k''
+  fetches-now last fetched k' k'' d puts p replies = record {
+    registered = h.registered;
+    cache = mid;
+    first = first;
+    registers = h.registers;
+    waiting = h.waiting;
+    second = second;
+    polls = h.polls;
+    drive = d.row;
+    puts = puts;
+    now = p.now;
+    last = last;
+    again = polls-whole w (driven fetched.spans h.waiting) second last k'' p;
+    replies = replies;
+    stands = p.stands;
+  }
+
+  module _ (log_before log_now : Option Log) where
+    pub stops-drive : (k' : Kept) → StopsDrive w h.waiting log_before log_now mid after k' → StopsFetch w past log_before log_now before after ids k'
+    stops-drive k' s = inr (inr (inl (record {
+      registered = h.registered;
+      cache = mid;
+      first = first;
+      registers = h.registers;
+      waiting = h.waiting;
+      second = second;
+      polls = h.polls;
+      stops = s;
+    })))
+
+    pub stops-again : (spans : List Span) (k' k'' : Kept) → IsNext w h.waiting drives (Driven spans) k' → PutsBy h.waiting spans mid after → Grew (asked_by spans) log_before log_now
+        → StopsPolls w (driven spans h.waiting) second k'' → StopsFetch w past log_before log_now before after ids k''
+    stops-again spans k' k'' d puts log s = inr (inr (inr (record {
+      registered = h.registered;
+      cache = mid;
+      first = first;
+      registers = h.registers;
+      waiting = h.waiting;
+      second = second;
+      polls = h.polls;
+      spans = spans;
+      drive = d.row;
+      puts = puts;
+      log = log;
+      stops = s;
+    })))
+
+-- a fetch stopped among the registers
+pub stops-registers : (w : World) (past : List Moment) (log : Option Log) (before after : CacheState) (ids : List SegmentId) (k : Kept) → StopsRegisters w past before ids k → StopsFetch w past log log before after ids k
+stops-registers w past log before after ids k s = inl (s, refl)
+
+-- or among the first polls
+pub stops-first : (w : World) (past : List Moment) (log : Option Log) (before after : CacheState) (ids : List SegmentId) (first : List Fetch) (k k' : Kept) → RegistersSome w past before after ids [] first k
+    → ((h : List Moment) → Stands w h k → StopsPolls w h first k') → StopsFetch w past log log before after ids k'
+stops-first w past log before after ids first k k' h stopped = inr (inl (record {
+  registered = h.now;
+  first = first;
+  registers = registers-whole w past before after ids first k h;
+  stops = stopped h.now h.stands;
+}, refl))
