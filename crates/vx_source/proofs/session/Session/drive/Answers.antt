@@ -110,3 +110,6 @@ returns-in_err-turn-clause-steady g c = λ w past file never told st inside.
     let i = c.loop-done.invariant in
     c.in_err-turn.ensures.steady file (i.same.never_fails ∙ never) (i.same.bytes ∙ told) (stands-inside w (words w (driven c.loop-done.done.items past)) (length file) c.loop-done.self (i.driving w past st).stands inside)
     ∙ i.steady w past file never told st inside
+
+pub returns-in_err-turn-clause-slices : goal.returns-in_err-turn-clause-slices
+returns-in_err-turn-clause-slices g c = λ w past file told st h t. rw c.in_err-turn.ensures.err_cache (c.loop-done.invariant.slices w past file told st h t)
