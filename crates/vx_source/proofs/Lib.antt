@@ -17,6 +17,7 @@ pub mod RegisterLemmas
 pub mod ScriptLemmas
 pub mod SettingLemmas
 pub mod SlotLemmas
+pub mod SourceLemmas
 pub mod SpanLemmas
 pub mod StepLemmas
 pub mod TallyLemmas

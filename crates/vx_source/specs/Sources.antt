@@ -73,10 +73,13 @@ abbrev pub in_session : Kept → ReaderState → CacheState → SourceState
 in_session k reader cache = record { table = k.table; may_pass = false; faults = reader.faults; cache_faults = cache.faults }
 
 -- the reader tells a file, of which the session has the bytes and the cache the segments
-pub record AreOfFile (k : Kept) (reader : ReaderState) (cache : CacheState) (file : List ℕ) : Type 0 where
+pub record ShareFile (k : Kept) (reader : ReaderState) (cache : CacheState) (file : List ℕ) : Type 0 where
   pub told : reader.bytes ≡ Some file
   pub bytes : HasBytes file k
   pub slices : TellsSlices file k.table cache
+
+abbrev pub AreOfFile : Kept → ReaderState → CacheState → List ℕ → Type 0
+AreOfFile k reader cache file = ∥ ShareFile k reader cache file ∥₁
 
 -- a session stands for some history
 abbrev pub HasHistory : Kept → Type 0

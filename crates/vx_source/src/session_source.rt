@@ -29,6 +29,7 @@ pub struct SessionSource<R: Reader, C: SegmentCache> {
 fn make_room(alloc: Global, session: &mut Session, count: u64)
     ensures room { length session.new.requests + count ≤ u64.MAX }
     ensures stands { (w : World) (past : List Moment) → Stands w past session.old → Stands w (history_for count past) session.new }
+    ensures history { HasHistory session.old → HasHistory session.new }
     ensures bytes { (file : List ℕ) → HasBytes file session.old → HasBytes file session.new }
     ensures settings { session.new.idle ≡ session.old.idle }
     ensures table { session.new.table ≡ session.old.table }
@@ -93,8 +94,8 @@ impl<R: Reader, C: SegmentCache> SessionSource<R, C> {
         ensures failures { IfOk result (λ fetched. Rises (cache_failures fetched.replies) (C.state self.old.cache).faults (C.state self.new.cache).faults) }
         ensures slices { IfOk result (λ fetched. (file : List ℕ) → AreOfFile self.old.session (R.state self.old.reader) (C.state self.old.cache) file →
             HaveSlices file self.old.session.table ids.now fetched.replies) }
-        ensures bytes { (file : List ℕ) → ∥ AreOfFile self.old.session (R.state self.old.reader) (C.state self.old.cache) file ∥₁ →
-            ∥ AreOfFile self.new.session (R.state self.new.reader) (C.state self.new.cache) file ∥₁ }
+        ensures bytes { (file : List ℕ) → AreOfFile self.old.session (R.state self.old.reader) (C.state self.old.cache) file →
+            AreOfFile self.new.session (R.state self.new.reader) (C.state self.new.cache) file }
         // The count of a reader that never fails stands still, where each segment ends within the file.
         ensures steady { (file : List ℕ) → (R.state self.old.reader).never_fails ≡ true → (R.state self.old.reader).bytes ≡ Some file →
             EndsWithin (length file) self.old.session.table → (R.state self.new.reader).faults ≡ (R.state self.old.reader).faults }
@@ -116,7 +117,7 @@ impl<R: Reader, C: SegmentCache> SessionSource<R, C> {
 impl<R: Reader, C: SegmentCache> SegmentSource for SessionSource<R, C> {
     ghost state = { λ s. in_session s.session (R.state s.reader) (C.state s.cache) };
 
-    ghost serves = { λ s file. ∥ AreOfFile s.session (R.state s.reader) (C.state s.cache) file ∥₁ };
+    ghost serves = { λ s. AreOfFile s.session (R.state s.reader) (C.state s.cache) };
 
     fn segment(&mut self, alloc: Global, id: SegmentId) -> Result<ByteBuffer, SourceError> {
         let fetched = self.segments(alloc, &[id])?;
