@@ -628,6 +628,8 @@ impl Session {
         ensures made { length self.new.requests ≡ length self.old.requests }
         ensures steady { (file : List ℕ) → (R.state reader.old).never_fails ≡ true → (R.state reader.old).bytes ≡ Some file →
             WaitsWithin (length file) self.old → (R.state reader.new).faults ≡ (R.state reader.old).faults }
+        ensures sound { IfOk result (λ _. (file : List ℕ) → (R.state reader.old).never_fails ≡ true → (R.state reader.old).bytes ≡ Some file →
+            WaitsWithin (length file) self.old → bad_spans done.new.items ≡ bad_spans done.old.items) }
         ensures same { SameReader (R.state reader.old) (R.state reader.new) }
         ensures same_cache { SameCache (C.state cache.old) (C.state cache.new) }
     {
@@ -660,9 +662,11 @@ impl Session {
             HasBytes file self.old → HasBytes file self.new }
         ensures slices { (w : World) (past : List Moment) (file : List ℕ) → (R.state reader.old).bytes ≡ Some file → Stands w past self.old →
             HasBytes file self.old → TellsSlices file w.table (C.state cache.old) → TellsSlices file w.table (C.state cache.new) }
-        // The count of a reader that never fails stands still, where each segment ends within the file.
+        // Of a reader that never fails the count stands still, and no span fails, where each segment ends within the file.
         ensures steady { (w : World) (past : List Moment) (file : List ℕ) → (R.state reader.old).never_fails ≡ true → (R.state reader.old).bytes ≡ Some file →
             Stands w past self.old → EndsWithin (length file) w.table → (R.state reader.new).faults ≡ (R.state reader.old).faults }
+        ensures sound { IfOk result (λ spans. (w : World) (past : List Moment) (file : List ℕ) → (R.state reader.old).never_fails ≡ true → (R.state reader.old).bytes ≡ Some file →
+            Stands w past self.old → EndsWithin (length file) w.table → bad_spans spans.items ≡ 0) }
         ensures stopped { OnErr result ((w : World) (past : List Moment) → Stands w past self.old →
             StopsDrive w past (R.state reader.old).log (R.state reader.new).log (C.state cache.old) (C.state cache.new) self.new) }
         ensures puts { IfOk result (λ spans. (w : World) (past : List Moment) → Stands w past self.old →
