@@ -9,7 +9,7 @@ use Rattle.vx_base.specs.declared.segment.SegmentId.{SegmentId}
 use Rattle.vx_base.specs.declared.segment.SegmentSpec.{SegmentSpec}
 use Rattle.vx_source.specs.Asks.{bad_spans, is_bad_span}
 use Rattle.vx_source.specs.Caching.{HasGot}
-use Rattle.vx_source.specs.Fetching.{number_in, at_register, at_poll, IsRegistered, Registering, IsPolled, Polling, IsTruePoll, AreTruePolls, IsAnswer, AreAnswers, HasSlice, HaveSlices, cache_failure, cache_failures}
+use Rattle.vx_source.specs.Fetching.{number_in, at_register, at_poll, IsRegistered, Registering, IsPolled, Polling, IsTruePoll, AreTruePolls, IsAnswer, AreAnswers, HasSlice, HaveSlices, AreReady, AreInTable, cache_failure, cache_failures}
 use Rattle.vx_source.specs.Fits.{World, IsRow, asks, covers, is_failing, driven, NoneDue}
 use Rattle.vx_source.specs.History.{Got, registers, polls, drives, Moment, moment, made, segment_of, is_live, is_held, read_of, joinable, joinable_by, if_open, joins, users, users_by, outcome_of, outcome_at, outcome_after, outcome_by, first_of, is_among, is_bad, is_polled, waits, waits_at, is_due}
 use Rattle.vx_source.specs.Kept.{Kept, outcome_in}
@@ -640,3 +640,25 @@ module _ (w : World) (past : List Moment) (before after : CacheState) (ids : Lis
           let b = polling-failures w (driven spans h.waiting) second last now polls in
           rises-fewer (cache_failures (map (λ (f : Fetch). f.reply) first)) (cache_failures (map (λ (f : Fetch). f.reply) last)) before.faults after.faults later.faults
           (registering-failures w past before ids first h.registered after h.registers) (omega (arith, a, b)) l
+
+-- ---- where nothing failed
+
+ready-one : (table : List SegmentSpec) (spans : List Span) (s : ℕ) (reply : Reply) (more : List Reply) → IsAnswer table spans s reply → s < length table → bad_spans spans ≡ 0 → cache_failure reply ≡ 0
+    → AreReady more → AreReady (reply ∷ more)
+ready-one table spans s (Registered n held) more a l bad failed h = absurd a
+ready-one table spans s MissingSegment more a l bad failed h = absurd (omega (arith, a, l))
+ready-one table spans s (Ready buffer) more a l bad failed h = h
+ready-one table spans s Pending more a l bad failed h = absurd a
+ready-one table spans s (Failed (Fault fault)) more a l bad failed h = let one = a.1 in absurd (omega (arith, one, bad))
+ready-one table spans s (Failed Cache) more a l bad failed h = absurd (omega (arith, failed))
+ready-one table spans s Dropped more a l bad failed h = absurd a
+ready-one table spans s NotLive more a l bad failed h = absurd a
+ready-one table spans s (Driven all) more a l bad failed h = absurd a
+
+pub ready-all : (table : List SegmentSpec) (spans : List Span) (ids : List SegmentId) (replies : List Reply) → AreAnswers table spans ids replies → AreInTable table ids → bad_spans spans ≡ 0
+    → cache_failures replies ≡ 0 → AreReady replies
+ready-all table spans [] [] a l bad failed = tt
+ready-all table spans [] (reply ∷ more) a l bad failed = absurd a
+ready-all table spans (id ∷ rest) [] a l bad failed = absurd a
+ready-all table spans (id ∷ rest) (reply ∷ more) a l bad failed =
+    ready-one table spans id.0 reply more a.0 l.0 bad (omega (arith, failed)) (ready-all table spans rest more a.1 l.1 bad (omega (arith, failed)))

@@ -198,3 +198,18 @@ cache_failure _ = 0
 abbrev pub cache_failures : List Reply → ℕ
 cache_failures [] = 0
 cache_failures (reply ∷ replies) = cache_failure reply + cache_failures replies
+
+-- each reply is ready
+abbrev pub AreReady : List Reply → Type 0
+AreReady [] = Unit {0}
+AreReady (Ready buffer ∷ more) = AreReady more
+AreReady (reply ∷ more) = ⊥
+
+-- the table has each segment
+abbrev pub AreInTable : List SegmentSpec → List SegmentId → Type 0
+AreInTable table [] = Unit {0}
+AreInTable table (id ∷ rest) = (id.0 < length table) × AreInTable table rest
+
+-- where the table has each segment and nothing failed, each reply is ready
+abbrev pub IsReadyUnlessFailed : List SegmentSpec → List SegmentId → Fetched → Type 0
+IsReadyUnlessFailed table ids fetched = AreInTable table ids → bad_spans fetched.spans ≡ 0 → cache_failures fetched.replies ≡ 0 → AreReady fetched.replies

@@ -5,7 +5,7 @@ ghost use Rattle.vx_base.specs.Counts.{Rises};
 ghost use Rattle.vx_base.specs.Readers.{SameReader};
 ghost use Rattle.vx_source.specs.Asks.{Grew, asked_by, bad_spans};
 ghost use Rattle.vx_source.specs.Bytes.{HasBytes, TellsSlices};
-ghost use Rattle.vx_source.specs.Fetching.{at_register, at_poll, IsPolled, Fetches, RegistersSome, StopsRegisters, PollsSome, StopsPolls, StopsFetch, IsTruePoll, AreTruePolls, AreAnswers, HaveSlices, cache_failures};
+ghost use Rattle.vx_source.specs.Fetching.{at_register, at_poll, IsPolled, Fetches, RegistersSome, StopsRegisters, PollsSome, StopsPolls, StopsFetch, IsTruePoll, AreTruePolls, AreAnswers, HaveSlices, IsReadyUnlessFailed, cache_failures};
 ghost use Rattle.vx_source.specs.Fits.{World};
 ghost use Rattle.vx_source.specs.History.{Moment};
 ghost use Rattle.vx_source.specs.Stands.{Stands, EndsWithin};
@@ -144,6 +144,7 @@ impl Session {
         ensures stands { (w : World) (past : List Moment) → Stands w past self.old → (now : List Moment) × Stands w now self.new }
         ensures answers { IfOk result (λ fetched. (w : World) (past : List Moment) → Stands w past self.old →
             AreAnswers w.table fetched.spans ids.now fetched.replies) }
+        ensures ready { IfOk result (λ fetched. (w : World) (past : List Moment) → Stands w past self.old → IsReadyUnlessFailed w.table ids.now fetched) }
         ensures log { IfOk result (λ fetched. Grew (asked_by fetched.spans) (R.state reader.old).log (R.state reader.new).log) }
         ensures bad { IfOk result (λ fetched. Rises (bad_spans fetched.spans) (R.state reader.old).faults (R.state reader.new).faults) }
         ensures failures { IfOk result (λ fetched. (w : World) (past : List Moment) → Stands w past self.old →
@@ -152,9 +153,11 @@ impl Session {
             HasBytes file self.old → TellsSlices file w.table (C.state cache.old) → HaveSlices file w.table ids.now fetched.replies) }
         ensures bytes { (w : World) (past : List Moment) (file : List ℕ) → (R.state reader.old).bytes ≡ Some file → Stands w past self.old →
             HasBytes file self.old → TellsSlices file w.table (C.state cache.old) → HasBytes file self.new × TellsSlices file w.table (C.state cache.new) }
-        // The count of a reader that never fails stands still, where each segment ends within the file.
+        // Of a reader that never fails the count stands still, and no span fails, where each segment ends within the file.
         ensures steady { (w : World) (past : List Moment) (file : List ℕ) → (R.state reader.old).never_fails ≡ true → (R.state reader.old).bytes ≡ Some file →
             Stands w past self.old → EndsWithin (length file) w.table → (R.state reader.new).faults ≡ (R.state reader.old).faults }
+        ensures sound { IfOk result (λ fetched. (w : World) (past : List Moment) (file : List ℕ) → (R.state reader.old).never_fails ≡ true →
+            (R.state reader.old).bytes ≡ Some file → Stands w past self.old → EndsWithin (length file) w.table → bad_spans fetched.spans ≡ 0) }
         ensures stopped { OnErr result ((w : World) (past : List Moment) → Stands w past self.old →
             StopsFetch w past (R.state reader.old).log (R.state reader.new).log (C.state cache.old) (C.state cache.new) ids.now self.new) }
         ensures settings { self.new.idle ≡ self.old.idle }

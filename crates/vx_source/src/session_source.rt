@@ -5,7 +5,7 @@ ghost use Rattle.vx_base.specs.Counts.{Rises};
 ghost use Rattle.vx_base.specs.Readers.{SameReader};
 ghost use Rattle.vx_source.specs.Asks.{Grew, asked_by, bad_spans};
 ghost use Rattle.vx_source.specs.Bytes.{HasBytes};
-ghost use Rattle.vx_source.specs.Fetching.{Fetches, StopsFetch, AreAnswers, HaveSlices, cache_failures};
+ghost use Rattle.vx_source.specs.Fetching.{Fetches, StopsFetch, AreAnswers, HaveSlices, IsReadyUnlessFailed, cache_failures};
 ghost use Rattle.vx_source.specs.Fits.{World};
 ghost use Rattle.vx_source.specs.History.{Moment};
 ghost use Rattle.vx_source.specs.Sources.{HasHistory, AreOfFile, in_session, history_for};
@@ -89,6 +89,7 @@ impl<R: Reader, C: SegmentCache> SessionSource<R, C> {
         ensures fetches { IfOk result (λ fetched. (w : World) (past : List Moment) → Stands w past self.old.session →
             Fetches w (history_for (length ids.now) past) (C.state self.old.cache) (C.state self.new.cache) ids.now fetched self.new.session) }
         ensures answers { IfOk result (λ fetched. AreAnswers self.old.session.table fetched.spans ids.now fetched.replies) }
+        ensures ready { IfOk result (IsReadyUnlessFailed self.old.session.table ids.now) }
         ensures log { IfOk result (λ fetched. Grew (asked_by fetched.spans) (R.state self.old.reader).log (R.state self.new.reader).log) }
         ensures bad { IfOk result (λ fetched. Rises (bad_spans fetched.spans) (R.state self.old.reader).faults (R.state self.new.reader).faults) }
         ensures failures { IfOk result (λ fetched. Rises (cache_failures fetched.replies) (C.state self.old.cache).faults (C.state self.new.cache).faults) }
@@ -96,9 +97,11 @@ impl<R: Reader, C: SegmentCache> SessionSource<R, C> {
             HaveSlices file self.old.session.table ids.now fetched.replies) }
         ensures bytes { (file : List ℕ) → AreOfFile self.old.session (R.state self.old.reader) (C.state self.old.cache) file →
             AreOfFile self.new.session (R.state self.new.reader) (C.state self.new.cache) file }
-        // The count of a reader that never fails stands still, where each segment ends within the file.
+        // Of a reader that never fails the count stands still, and no span fails, where each segment ends within the file.
         ensures steady { (file : List ℕ) → (R.state self.old.reader).never_fails ≡ true → (R.state self.old.reader).bytes ≡ Some file →
             EndsWithin (length file) self.old.session.table → (R.state self.new.reader).faults ≡ (R.state self.old.reader).faults }
+        ensures sound { IfOk result (λ fetched. (file : List ℕ) → (R.state self.old.reader).never_fails ≡ true → (R.state self.old.reader).bytes ≡ Some file →
+            EndsWithin (length file) self.old.session.table → bad_spans fetched.spans ≡ 0) }
         ensures stopped { OnErr result ((w : World) (past : List Moment) → Stands w past self.old.session →
             StopsFetch w (history_for (length ids.now) past) (R.state self.old.reader).log (R.state self.new.reader).log
             (C.state self.old.cache) (C.state self.new.cache) ids.now self.new.session) }

@@ -1,6 +1,8 @@
 use Rattle.std.proofs.Common.{◌∙◌, ◌≤◌, ap, length, sym, subst}
 use Rattle.vx_source.specs.Fetching.{AreAnswers, cache_failures}
 use Rattle.vx_source.specs.Stands.{EndsWithin}
+use Rattle.vx_source.specs.Asks.{bad_spans}
+use Rattle.vx_source.proofs.AnswerLemmas.{ready-all}
 use Rattle.vx_source.proofs.SourceLemmas.{answers-all, rises-all, same-all, table-all, history-then, file-slices, file-then}
 use Rattle.vx_source.proofs.session_source.SessionSource.segments.Goals as goal
 
@@ -52,6 +54,15 @@ returns-clause-steady g c = λ file never told inside.
     same-all room history (reader c.segments.new.reader).faults (reader c.args.self.now.reader).faults (λ w past st.
     c.in_ok-fetched.ensures.steady w past file never told st (subst (EndsWithin (length file)) (sym c.make_room.ensures.table ∙ st.table) inside))
 
+pub returns-clause-sound : goal.returns-clause-sound
+returns-clause-sound g c = λ file never told inside.
+    let reader = g.R.Reader.state in
+    let cache = g.C.SegmentCache.state in
+    let room = c.make_room.new.session in
+    let history = c.make_room.ensures.history c.args.self.now.history in
+    same-all room history (bad_spans c.in_ok-fetched.fetched.spans) 0 (λ w past st.
+    c.in_ok-fetched.ensures.sound w past file never told st (subst (EndsWithin (length file)) (sym c.make_room.ensures.table ∙ st.table) inside))
+
 pub returns-in_err-fetched-clause-table : goal.returns-in_err-fetched-clause-table
 returns-in_err-fetched-clause-table g c = 
     let room = c.make_room.new.session in
@@ -70,6 +81,13 @@ returns-clause-answers g c =
     let history = c.make_room.ensures.history c.args.self.now.history in
     let f = c.in_ok-fetched.fetched in
     subst (λ t. AreAnswers t f.spans c.args.ids.now f.replies) c.make_room.ensures.table (answers-all room history f.spans c.args.ids.now f.replies (λ w past st. c.in_ok-fetched.ensures.answers w past st))
+
+pub returns-clause-ready : goal.returns-clause-ready
+returns-clause-ready g c = 
+    let room = c.make_room.new.session in
+    let history = c.make_room.ensures.history c.args.self.now.history in
+    let f = c.in_ok-fetched.fetched in
+    ready-all c.args.self.now.session.table f.spans c.args.ids.now f.replies (subst (λ t. AreAnswers t f.spans c.args.ids.now f.replies) c.make_room.ensures.table (answers-all room history f.spans c.args.ids.now f.replies (λ w past st. c.in_ok-fetched.ensures.answers w past st)))
 
 pub returns-clause-failures : goal.returns-clause-failures
 returns-clause-failures g c = 
