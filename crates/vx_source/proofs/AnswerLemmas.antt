@@ -7,15 +7,16 @@ use Rattle.vx_base.specs.Caches.{CacheState}
 use Rattle.vx_base.specs.Counts.{Rises}
 use Rattle.vx_base.specs.declared.segment.SegmentId.{SegmentId}
 use Rattle.vx_base.specs.declared.segment.SegmentSpec.{SegmentSpec}
+use Rattle.vx_sched.specs.declared.fault.Fault.{Fault}
 use Rattle.vx_source.specs.Asks.{bad_spans, is_bad_span}
 use Rattle.vx_source.specs.Caching.{HasGot}
-use Rattle.vx_source.specs.Fetching.{number_in, at_register, at_poll, IsRegistered, Registering, IsPolled, Polling, IsTruePoll, AreTruePolls, IsAnswer, AreAnswers, HasSlice, HaveSlices, AreReady, AreInTable, cache_failure, cache_failures}
+use Rattle.vx_source.specs.Fetching.{number_in, at_register, at_poll, IsRegistered, Registering, IsPolled, Polling, IsTruePoll, AreTruePolls, IsAnswer, AreAnswers, IsFaultIn, IsFaultOf, AreFaultsOf, HasSlice, HaveSlices, AreReady, AreInTable, cache_failure, cache_failures}
 use Rattle.vx_source.specs.Fits.{World, IsRow, asks, covers, is_failing, driven, NoneDue}
 use Rattle.vx_source.specs.History.{Got, registers, polls, drives, Moment, moment, made, segment_of, is_live, is_held, read_of, joinable, joinable_by, if_open, joins, users, users_by, outcome_of, outcome_at, outcome_after, outcome_by, first_of, is_among, is_bad, is_polled, waits, waits_at, is_due}
 use Rattle.vx_source.specs.Kept.{Kept, outcome_in}
 use Rattle.vx_source.specs.Stands.{Stands, IsNext, words}
 use Rattle.vx_source.specs.declared.fetching.Fetch.{Fetch}
-use Rattle.vx_source.specs.declared.reply.FailCause.TheVariants.{Fault, Cache}
+use Rattle.vx_source.specs.declared.reply.FailCause.TheVariants as cause
 use Rattle.vx_source.specs.declared.reply.Reply.{Reply}
 use Rattle.vx_source.specs.declared.reply.Reply.TheVariants.{Registered, MissingSegment, Ready, Pending, Failed, Dropped, NotLive, Driven}
 use Rattle.vx_source.specs.declared.span.Span.{Span}
@@ -99,7 +100,7 @@ pub record IsRead (w : World) (spans : List Span) (past : List Moment) (s n : �
   pub segment : segment_of past n ≡ Some s
   pub outcome : SpanOutcome
   pub outcome_is : outcome_at past n ≡ Some outcome
-  pub bad : is_bad (Some outcome) ≡ true → 1 ≤ bad_spans spans
+  pub fails : (fault : Fault) → outcome ≡ Bad fault → IsFaultIn fault spans
 
 -- ---- a poll of another number
 
@@ -157,7 +158,7 @@ read-kept w spans past number s n reply row apart h =
       segment = same.segment n ∙ h.segment;
       outcome = h.outcome;
       outcome_is = at-same past (moment (polls number) reply ∷ past) n same ∙ h.outcome_is;
-      bad = h.bad;
+      fails = h.fails;
     }
 
 -- a pending number stays so while greater ones are polled
@@ -205,8 +206,8 @@ first-poll w past s n Pending row h =
       polled = ap (λ o. cond (option_map_or (λ q. q == r.0) o false) true (is_polled past r.0)) r.1 ∙ ap (λ b. cond b true (is_polled past r.0)) (that-self r.0);
       unread = none-is (outcome_of past r.0) (and_parts (is_none (outcome_of past r.0)) (nat_le 1 (users past r.0)) r.2).0;
     })
-first-poll w past s n (Failed (Fault fault)) row h = let clash : true ≡ false = sym (ap is_bad row.1) ∙ h.fresh in cc
-first-poll w past s n (Failed Cache) row h = absurd row
+first-poll w past s n (Failed (cause.Fault fault)) row h = let clash : true ≡ false = sym (ap is_bad row.1) ∙ h.fresh in cc
+first-poll w past s n (Failed cause.Cache) row h = absurd row
 first-poll w past s n Dropped row h = absurd row
 first-poll w past s n NotLive row h = let clash : true ≡ false = sym h.live ∙ row in cc
 first-poll w past s n (Driven spans) row h = absurd row
@@ -257,19 +258,24 @@ first-polls w past from (id ∷ ids) (f ∷ fs) (g ∷ gs) now h p = step f.numb
 
 -- ---- the drive
 
--- a span that failed is among those that gave a read a failure
-outcome-bad : (spans : List Span) (r : ℕ) (before : Option SpanOutcome) → is_bad before ≡ false → is_bad (outcome_after spans r before) ≡ true → 1 ≤ bad_spans spans
-outcome-bad [] r before fine h = let clash : true ≡ false = sym h ∙ fine in cc
-outcome-bad (span ∷ spans) r before fine h =
-    at (λ x f g. let m = outcome-bad spans r x f g in omega (arith, m)) before fine (is_among r span.reads) span.outcome refl h
+-- a read that failed was listed by a span that failed so
+outcome-fails : (spans : List Span) (r : ℕ) (before : Option SpanOutcome) (fault : Fault) → outcome_after spans r before ≡ Some (Bad fault) → (before ≡ Some (Bad fault)) ⊎ IsFaultIn fault spans
+outcome-fails [] r before fault h = inl h
+outcome-fails (span ∷ spans) r before fault h = at (outcome-fails spans r (first_of before (outcome_by span r)) fault h)
   where
-    at : ((x : Option SpanOutcome) → is_bad x ≡ false → is_bad (outcome_after spans r x) ≡ true → 1 ≤ is_bad_span span.outcome + bad_spans spans)
-        → (b : Option SpanOutcome) → is_bad b ≡ false → (c : Bool) (o : SpanOutcome) → span.outcome ≡ o → is_bad (outcome_after spans r (first_of b (cond c (Some span.outcome) None))) ≡ true
-        → 1 ≤ is_bad_span span.outcome + bad_spans spans
-    at later (Some x) f c o e g = later (Some x) f g
-    at later None f false o e g = later None refl g
-    at later None f true Good e g = later (Some span.outcome) (ap (λ x. is_bad (Some x)) e) g
-    at later None f true (Bad fault) e g = let one = ap is_bad_span e in omega (arith, one)
+    here : (b : Option SpanOutcome) (c : Bool) → first_of b (cond c (Some span.outcome) None) ≡ Some (Bad fault) → (b ≡ Some (Bad fault)) ⊎ ((span.outcome ≡ Bad fault) ⊎ IsFaultIn fault spans)
+    here (Some x) c e = inl e
+    here None true e = let is : span.outcome ≡ Bad fault = cc in inr (inl is)
+    here None false e = cc
+
+    at : (first_of before (outcome_by span r) ≡ Some (Bad fault)) ⊎ IsFaultIn fault spans → (before ≡ Some (Bad fault)) ⊎ ((span.outcome ≡ Bad fault) ⊎ IsFaultIn fault spans)
+    at (inl e) = here before (is_among r span.reads) e
+    at (inr f) = inr (inr f)
+
+fault-bad : (spans : List Span) (fault : Fault) → IsFaultIn fault spans → 1 ≤ bad_spans spans
+fault-bad [] fault h = absurd h
+fault-bad (span ∷ spans) fault (inl e) = let one = ap is_bad_span e in omega (arith, one)
+fault-bad (span ∷ spans) fault (inr h) = let more = fault-bad spans fault h in omega (arith, more)
 
 due-parts : (a b c : Bool) → a ≡ true → c ≡ true → (a && (b && c)) ≡ false → b ≡ false
 due-parts true true true a c h = cc
@@ -280,6 +286,10 @@ due-parts false b c a d h = cc
 some-is : (o : Option SpanOutcome) → is_none o ≡ false → (x : SpanOutcome) × (o ≡ Some x)
 some-is None h = cc
 some-is (Some x) h = (x, refl)
+
+read-fails : {X : Type 0} (o : Option SpanOutcome) → o ≡ None → (fault : Fault) → (o ≡ Some (Bad fault)) ⊎ X → X
+read-fails o none fault (inl e) = let clash : None ≡ Some (Bad fault) = sym none ∙ e in cc
+read-fails o none fault (inr x) = x
 
 pub driven-read : (w : World) (past : List Moment) (spans : List Span) (k : Kept) (s n : ℕ) → Stands w (driven spans past) k → NoneDue (driven spans past) → IsWaiting w past s n → IsRead w spans (driven spans past) s n
 driven-read w past spans k s n st none h =
@@ -292,7 +302,7 @@ driven-read w past spans k s n st none h =
       segment = h.segment;
       outcome = read.0;
       outcome_is = ap (option_and_then (outcome_of d)) h.read_is ∙ read.1;
-      bad = λ is. outcome-bad spans h.read (outcome_of past h.read) (ap is_bad h.unread) (ap is_bad read.1 ∙ is);
+      fails = λ fault is. read-fails (outcome_of past h.read) h.unread fault (outcome-fails spans h.read (outcome_of past h.read) fault (read.1 ∙ ap (λ o. Some o) is));
     }
 
 -- ---- the last polls
@@ -302,11 +312,14 @@ answer-more table spans s (Registered m held) h = absurd h
 answer-more table spans s MissingSegment h = h
 answer-more table spans s (Ready buffer) h = h
 answer-more table spans s Pending h = absurd h
-answer-more table spans s (Failed (Fault fault)) h = let no = h.1 in absurd (omega (arith, no))
-answer-more table spans s (Failed Cache) h = h
+answer-more table spans s (Failed (cause.Fault fault)) h = let no = h.1 in absurd (omega (arith, no))
+answer-more table spans s (Failed cause.Cache) h = h
 answer-more table spans s Dropped h = absurd h
 answer-more table spans s NotLive h = absurd h
 answer-more table spans s (Driven more) h = absurd h
+
+poll-fault : (w : World) (spans : List Span) (past : List Moment) (s n : ℕ) (fault : Fault) → IsRow w past (polls n) (Failed (cause.Fault fault)) → IsRead w spans past s n → IsFaultIn fault spans
+poll-fault w spans past s n fault row h = let same : Some h.outcome ≡ Some (Bad fault) = sym h.outcome_is ∙ row.1 in let is : h.outcome ≡ Bad fault = cc in h.fails fault is
 
 last-poll : (w : World) (spans : List Span) (past : List Moment) (s n : ℕ) (reply : Reply) → IsRow w past (polls n) reply → IsRead w spans past s n → IsAnswer w.table spans s reply
 last-poll w spans past s n (Registered m held) row h = absurd row
@@ -317,15 +330,39 @@ last-poll w spans past s n Pending row h =
     let none = none-is (outcome_of past r.0) (and_parts (is_none (outcome_of past r.0)) (nat_le 1 (users past r.0)) r.2).0 in
     let clash : None ≡ Some h.outcome = sym none ∙ sym (ap (option_and_then (outcome_of past)) r.1) ∙ h.outcome_is in
     cc
-last-poll w spans past s n (Failed (Fault fault)) row h = (h.inside, h.bad (ap is_bad (sym h.outcome_is ∙ row.1)))
-last-poll w spans past s n (Failed Cache) row h = absurd row
+last-poll w spans past s n (Failed (cause.Fault fault)) row h = (h.inside, fault-bad spans fault (poll-fault w spans past s n fault row h))
+last-poll w spans past s n (Failed cause.Cache) row h = absurd row
 last-poll w spans past s n Dropped row h = absurd row
 last-poll w spans past s n NotLive row h = let clash : true ≡ false = sym h.live ∙ row in cc
 last-poll w spans past s n (Driven more) row h = absurd row
 
+-- the fault of a closed request is none
+closed-fault : (table : List SegmentSpec) (spans : List Span) (s : ℕ) (reply : Reply) → IsAnswer table [] s reply → IsFaultOf spans reply
+closed-fault table spans s (Registered m held) h = tt
+closed-fault table spans s MissingSegment h = tt
+closed-fault table spans s (Ready buffer) h = tt
+closed-fault table spans s Pending h = tt
+closed-fault table spans s (Failed (cause.Fault fault)) h = let no = h.1 in absurd (omega (arith, no))
+closed-fault table spans s (Failed cause.Cache) h = tt
+closed-fault table spans s Dropped h = tt
+closed-fault table spans s NotLive h = tt
+closed-fault table spans s (Driven more) h = tt
+
+last-fault : (w : World) (spans : List Span) (past : List Moment) (s n : ℕ) (reply : Reply) → IsRow w past (polls n) reply → IsRead w spans past s n → IsFaultOf spans reply
+last-fault w spans past s n (Registered m held) row h = tt
+last-fault w spans past s n MissingSegment row h = tt
+last-fault w spans past s n (Ready buffer) row h = tt
+last-fault w spans past s n Pending row h = tt
+last-fault w spans past s n (Failed (cause.Fault fault)) row h = poll-fault w spans past s n fault row h
+last-fault w spans past s n (Failed cause.Cache) row h = tt
+last-fault w spans past s n Dropped row h = tt
+last-fault w spans past s n NotLive row h = tt
+last-fault w spans past s n (Driven more) row h = tt
+
 pub last-polls : (w : World) (spans : List Span) (past : List Moment) (from : ℕ) (ids : List SegmentId) (fs gs : List Fetch) (now : List Moment)
-    → AreAt w.table (IsRead w spans past) from ids fs → Polling w past fs gs now → AreAnswers w.table spans ids (map (λ (f : Fetch). f.reply) gs)
-last-polls w spans past from [] [] [] now h p = tt
+    → AreAt w.table (IsRead w spans past) from ids fs → Polling w past fs gs now
+    → AreAnswers w.table spans ids (map (λ (f : Fetch). f.reply) gs) × AreFaultsOf spans (map (λ (f : Fetch). f.reply) gs)
+last-polls w spans past from [] [] [] now h p = (tt, tt)
 last-polls w spans past from [] [] (g ∷ gs) now h p = absurd p
 last-polls w spans past from [] (f ∷ fs) gs now h p = absurd h
 last-polls w spans past from (id ∷ ids) [] gs now h p = absurd h
@@ -333,16 +370,17 @@ last-polls w spans past from (id ∷ ids) (f ∷ fs) [] now h p = absurd p
 last-polls w spans past from (id ∷ ids) (f ∷ fs) (g ∷ gs) now h p = step f.number h.0 h.1 p.1 (λ b a. last-polls w spans p.0 b ids fs gs now a p.2)
   where
     step : (o : Option ℕ) → IsAt w.table (IsRead w spans past) from id.0 f o → AreAt w.table (IsRead w spans past) (after_number from o) ids fs → IsPolled w past o f g p.0
-        → ((b : ℕ) → AreAt w.table (IsRead w spans p.0) b ids fs → AreAnswers w.table spans ids (map (λ (f : Fetch). f.reply) gs))
-        → IsAnswer w.table spans id.0 g.reply × AreAnswers w.table spans ids (map (λ (f : Fetch). f.reply) gs)
+        → ((b : ℕ) → AreAt w.table (IsRead w spans p.0) b ids fs → AreAnswers w.table spans ids (map (λ (f : Fetch). f.reply) gs) × AreFaultsOf spans (map (λ (f : Fetch). f.reply) gs))
+        → AreAnswers w.table spans (id ∷ ids) (g.reply ∷ map (λ (f : Fetch). f.reply) gs) × AreFaultsOf spans (g.reply ∷ map (λ (f : Fetch). f.reply) gs)
     step None a rest q more =
-        (answer-more w.table spans id.0 g.reply (subst (λ (x : Fetch). IsAnswer w.table [] id.0 x.reply) (sym q.0) a),
-         more from (subst (λ x. AreAt w.table (IsRead w spans x) from ids fs) (sym q.1) rest))
+        let closed = subst (λ (x : Fetch). IsAnswer w.table [] id.0 x.reply) (sym q.0) a in
+        let later = more from (subst (λ x. AreAt w.table (IsRead w spans x) from ids fs) (sym q.1) rest) in
+        ((answer-more w.table spans id.0 g.reply closed, later.0), (closed-fault w.table spans id.0 g.reply closed, later.1))
     step (Some n) a rest q more =
-        (last-poll w spans past id.0 n g.reply q.1 a.1,
-         more (n + 1) (subst (λ x. AreAt w.table (IsRead w spans x) (n + 1) ids fs) (sym q.2)
-         (are-map w.table (IsRead w spans past) (IsRead w spans (moment (polls n) g.reply ∷ past)) (n + 1) (n + 1) ids fs (omega arith)
-         (λ s m l x. read-kept w spans past n s m g.reply q.1 (λ is. absurd (omega (arith, l, is))) x) rest)))
+        let later = more (n + 1) (subst (λ x. AreAt w.table (IsRead w spans x) (n + 1) ids fs) (sym q.2)
+            (are-map w.table (IsRead w spans past) (IsRead w spans (moment (polls n) g.reply ∷ past)) (n + 1) (n + 1) ids fs (omega arith)
+            (λ s m l x. read-kept w spans past n s m g.reply q.1 (λ is. absurd (omega (arith, l, is))) x) rest)) in
+        ((last-poll w spans past id.0 n g.reply q.1 a.1, later.0), (last-fault w spans past id.0 n g.reply q.1 a.1, later.1))
 
 -- ---- registers
 
@@ -491,8 +529,8 @@ registers-open w past before (id ∷ ids) (f ∷ fs) now after unread h =
     at more MissingSegment e row = none more MissingSegment e refl row (ap made (made-next MissingSegment e))
     at more (Ready buffer) e row = absurd row
     at more Pending e row = absurd row
-    at more (Failed (Fault fault)) e row = absurd row
-    at more (Failed Cache) e row = none more (Failed Cache) e refl row.0 (ap made (made-next (Failed Cache) e))
+    at more (Failed (cause.Fault fault)) e row = absurd row
+    at more (Failed cause.Cache) e row = none more (Failed cause.Cache) e refl row.0 (ap made (made-next (Failed cause.Cache) e))
     at more Dropped e row = absurd row
     at more NotLive e row = absurd row
     at more (Driven spans) e row = absurd row
@@ -521,8 +559,8 @@ registered-failures w past s got before now (Registered number held) row h = ris
 registered-failures w past s got before now MissingSegment row h = rises-zero before.faults now.faults (got-later (asks w s) s before now got h)
 registered-failures w past s got before now (Ready buffer) row h = absurd row
 registered-failures w past s got before now Pending row h = absurd row
-registered-failures w past s got before now (Failed (Fault fault)) row h = absurd row
-registered-failures w past s got before now (Failed Cache) row h = h.failed row.2
+registered-failures w past s got before now (Failed (cause.Fault fault)) row h = absurd row
+registered-failures w past s got before now (Failed cause.Cache) row h = h.failed row.2
 registered-failures w past s got before now Dropped row h = absurd row
 registered-failures w past s got before now NotLive row h = absurd row
 registered-failures w past s got before now (Driven spans) row h = absurd row
@@ -541,8 +579,8 @@ poll-failure w past n (Registered m held) row = absurd row
 poll-failure w past n MissingSegment row = absurd row
 poll-failure w past n (Ready buffer) row = refl
 poll-failure w past n Pending row = refl
-poll-failure w past n (Failed (Fault fault)) row = refl
-poll-failure w past n (Failed Cache) row = absurd row
+poll-failure w past n (Failed (cause.Fault fault)) row = refl
+poll-failure w past n (Failed cause.Cache) row = absurd row
 poll-failure w past n Dropped row = absurd row
 poll-failure w past n NotLive row = refl
 poll-failure w past n (Driven spans) row = absurd row
@@ -625,7 +663,10 @@ module _ (w : World) (past : List Moment) (before after : CacheState) (ids : Lis
 
     module _ (last : List Fetch) (now : List Moment) (polls : Polling w (driven spans h.waiting) second last now) where
       pub answers-now : AreAnswers w.table spans ids (map (λ (f : Fetch). f.reply) last)
-      answers-now = last-polls w spans (driven spans h.waiting) (made past) ids second last now read polls
+      answers-now = (last-polls w spans (driven spans h.waiting) (made past) ids second last now read polls).0
+
+      pub faults-now : AreFaultsOf spans (map (λ (f : Fetch). f.reply) last)
+      faults-now = (last-polls w spans (driven spans h.waiting) (made past) ids second last now read polls).1
 
       pub slices-now : (file : List ℕ) → AreTruePolls file w h.registered first second → AreTruePolls file w (driven spans h.waiting) second last
           → HaveSlices file w.table ids (map (λ (f : Fetch). f.reply) last)
@@ -649,8 +690,8 @@ ready-one table spans s (Registered n held) more a l bad failed h = absurd a
 ready-one table spans s MissingSegment more a l bad failed h = absurd (omega (arith, a, l))
 ready-one table spans s (Ready buffer) more a l bad failed h = h
 ready-one table spans s Pending more a l bad failed h = absurd a
-ready-one table spans s (Failed (Fault fault)) more a l bad failed h = let one = a.1 in absurd (omega (arith, one, bad))
-ready-one table spans s (Failed Cache) more a l bad failed h = absurd (omega (arith, failed))
+ready-one table spans s (Failed (cause.Fault fault)) more a l bad failed h = let one = a.1 in absurd (omega (arith, one, bad))
+ready-one table spans s (Failed cause.Cache) more a l bad failed h = absurd (omega (arith, failed))
 ready-one table spans s Dropped more a l bad failed h = absurd a
 ready-one table spans s NotLive more a l bad failed h = absurd a
 ready-one table spans s (Driven all) more a l bad failed h = absurd a

@@ -4,6 +4,7 @@ use Rattle.vx_base.specs.Asking.{Log}
 use Rattle.vx_base.specs.Caches.{CacheState}
 use Rattle.vx_base.specs.declared.segment.SegmentId.{SegmentId}
 use Rattle.vx_base.specs.declared.segment.SegmentSpec.{SegmentSpec}
+use Rattle.vx_sched.specs.declared.fault.Fault.{Fault}
 use Rattle.vx_source.specs.Asks.{Grew, asked_by, bad_spans}
 use Rattle.vx_source.specs.Bytes.{IsSlice, IsTrueReply}
 use Rattle.vx_source.specs.Caching.{HasGot}
@@ -15,10 +16,11 @@ use Rattle.vx_source.specs.Puts.{PutsBy}
 use Rattle.vx_source.specs.Stands.{Stands}
 use Rattle.vx_source.specs.declared.fetching.Fetch.{Fetch}
 use Rattle.vx_source.specs.declared.fetching.Fetched.{Fetched}
-use Rattle.vx_source.specs.declared.reply.FailCause.TheVariants.{Fault, Cache}
+use Rattle.vx_source.specs.declared.reply.FailCause.TheVariants as cause
 use Rattle.vx_source.specs.declared.reply.Reply.{Reply}
 use Rattle.vx_source.specs.declared.reply.Reply.TheVariants.{Registered, MissingSegment, Ready, Pending, Failed, Driven}
 use Rattle.vx_source.specs.declared.span.Span.{Span}
+use Rattle.vx_source.specs.declared.span.SpanOutcome.TheVariants.{Bad}
 
 -- ---- registers
 
@@ -169,8 +171,8 @@ AreTruePolls file w past (f ∷ rest) (g ∷ more) = IsTruePoll file w past f.nu
 abbrev pub IsAnswer : List SegmentSpec → List Span → ℕ → Reply → Type 0
 IsAnswer table spans s MissingSegment = length table ≤ s
 IsAnswer table spans s (Ready buffer) = s < length table
-IsAnswer table spans s (Failed Cache) = s < length table
-IsAnswer table spans s (Failed (Fault fault)) = (s < length table) × (1 ≤ bad_spans spans)
+IsAnswer table spans s (Failed cause.Cache) = s < length table
+IsAnswer table spans s (Failed (cause.Fault fault)) = (s < length table) × (1 ≤ bad_spans spans)
 IsAnswer table spans s _ = ⊥
 
 -- one for each segment
@@ -179,6 +181,20 @@ AreAnswers table spans [] [] = Unit {0}
 AreAnswers table spans [] (reply ∷ more) = ⊥
 AreAnswers table spans (id ∷ rest) [] = ⊥
 AreAnswers table spans (id ∷ rest) (reply ∷ more) = IsAnswer table spans id.0 reply × AreAnswers table spans rest more
+
+-- a span failed with this fault
+abbrev pub IsFaultIn : Fault → List Span → Type 0
+IsFaultIn fault [] = ⊥
+IsFaultIn fault (span ∷ rest) = (span.outcome ≡ Bad fault) ⊎ IsFaultIn fault rest
+
+abbrev pub IsFaultOf : List Span → Reply → Type 0
+IsFaultOf spans (Failed (cause.Fault fault)) = IsFaultIn fault spans
+IsFaultOf spans _ = Unit {0}
+
+-- each fault is that of a span
+abbrev pub AreFaultsOf : List Span → List Reply → Type 0
+AreFaultsOf spans [] = Unit {0}
+AreFaultsOf spans (reply ∷ more) = IsFaultOf spans reply × AreFaultsOf spans more
 
 -- what is ready is the bytes of its segment
 abbrev pub HasSlice : List ℕ → List SegmentSpec → ℕ → Reply → Type 0
@@ -191,7 +207,7 @@ HaveSlices file table (id ∷ rest) [] = Unit {0}
 HaveSlices file table (id ∷ rest) (reply ∷ more) = HasSlice file table id.0 reply × HaveSlices file table rest more
 
 abbrev pub cache_failure : Reply → ℕ
-cache_failure (Failed Cache) = 1
+cache_failure (Failed cause.Cache) = 1
 cache_failure _ = 0
 
 -- how many replies tell that the cache failed

@@ -5,7 +5,7 @@ ghost use Rattle.vx_base.specs.Counts.{Rises};
 ghost use Rattle.vx_base.specs.Readers.{SameReader};
 ghost use Rattle.vx_source.specs.Asks.{Grew, asked_by, bad_spans};
 ghost use Rattle.vx_source.specs.Bytes.{HasBytes, TellsSlices};
-ghost use Rattle.vx_source.specs.Fetching.{at_register, at_poll, IsPolled, Fetches, RegistersSome, StopsRegisters, PollsSome, StopsPolls, StopsFetch, IsTruePoll, AreTruePolls, AreAnswers, HaveSlices, IsReadyUnlessFailed, cache_failures};
+ghost use Rattle.vx_source.specs.Fetching.{at_register, at_poll, IsPolled, Fetches, RegistersSome, StopsRegisters, PollsSome, StopsPolls, StopsFetch, IsTruePoll, AreTruePolls, AreAnswers, AreFaultsOf, HaveSlices, IsReadyUnlessFailed, cache_failures};
 ghost use Rattle.vx_source.specs.Fits.{World};
 ghost use Rattle.vx_source.specs.History.{Moment};
 ghost use Rattle.vx_source.specs.Stands.{Stands, EndsWithin};
@@ -144,6 +144,7 @@ impl Session {
         ensures stands { (w : World) (past : List Moment) → Stands w past self.old → (now : List Moment) × Stands w now self.new }
         ensures answers { IfOk result (λ fetched. (w : World) (past : List Moment) → Stands w past self.old →
             AreAnswers w.table fetched.spans ids.now fetched.replies) }
+        ensures faults { IfOk result (λ fetched. (w : World) (past : List Moment) → Stands w past self.old → AreFaultsOf fetched.spans fetched.replies) }
         ensures ready { IfOk result (λ fetched. (w : World) (past : List Moment) → Stands w past self.old → IsReadyUnlessFailed w.table ids.now fetched) }
         ensures log { IfOk result (λ fetched. Grew (asked_by fetched.spans) (R.state reader.old).log (R.state reader.new).log) }
         ensures bad { IfOk result (λ fetched. Rises (bad_spans fetched.spans) (R.state reader.old).faults (R.state reader.new).faults) }

@@ -4,7 +4,7 @@ use Rattle.vx_source.specs.History.{moment, stops}
 use Rattle.vx_source.specs.declared.reply.Reply.TheVariants.{Driven}
 use Rattle.vx_source.proofs.DriveLemmas.{on-err}
 use Rattle.vx_source.proofs.FetchLemmas.{waits-now, polls-whole, fetches-now, stops-again}
-use Rattle.vx_source.proofs.AnswerLemmas.{answers-now, slices-now, failures-now, ready-all}
+use Rattle.vx_source.proofs.AnswerLemmas.{answers-now, faults-now, slices-now, failures-now, ready-all}
 use Rattle.vx_source.proofs.session.Session.segments.Goals as goal
 
 pub returns-in_err-registered-clause-stands : goal.returns-in_err-registered-clause-stands
@@ -161,6 +161,17 @@ returns-clause-answers g c = λ w past st.
     let p = c.in_ok-last.ensures.polled w (driven c.in_ok-spans.spans.items waits.waiting) driving.stands in
     let again = polls-whole w (driven c.in_ok-spans.spans.items waits.waiting) c.in_ok-polled.polled.items c.in_ok-last.last.items c.poll_all-2.new.session p in
     rw (c.in_ok-replies.ensures, c.from_vec.ensures) (answers-now w past (cache c.args.cache.now) (cache c.register_all.new.cache) c.args.ids.now c.in_ok-registered.registered.items c.in_ok-polled.polled.items c.poll_all.new.session c.args.self.now st waits c.in_ok-spans.spans.items c.drive.new.self driving c.in_ok-last.last.items p.now again)
+
+pub returns-clause-faults : goal.returns-clause-faults
+returns-clause-faults g c = λ w past st.
+    let cache = g.C.SegmentCache.state in
+    let registered = c.in_ok-registered.ensures.registered w past st in
+    let waits = waits-now w past (cache c.args.cache.now) (cache c.register_all.new.cache) c.args.ids.now c.in_ok-registered.registered.items c.in_ok-polled.polled.items c.register_all.new.session c.poll_all.new.session
+    registered (λ a s. c.in_ok-polled.ensures.polled w a s) in
+    let driving = c.in_ok-spans.ensures.driven w waits.waiting waits.stands in
+    let p = c.in_ok-last.ensures.polled w (driven c.in_ok-spans.spans.items waits.waiting) driving.stands in
+    let again = polls-whole w (driven c.in_ok-spans.spans.items waits.waiting) c.in_ok-polled.polled.items c.in_ok-last.last.items c.poll_all-2.new.session p in
+    rw (c.in_ok-replies.ensures, c.from_vec.ensures) (faults-now w past (cache c.args.cache.now) (cache c.register_all.new.cache) c.args.ids.now c.in_ok-registered.registered.items c.in_ok-polled.polled.items c.poll_all.new.session c.args.self.now st waits c.in_ok-spans.spans.items c.drive.new.self driving c.in_ok-last.last.items p.now again)
 
 pub returns-clause-ready : goal.returns-clause-ready
 returns-clause-ready g c = λ w past st.
