@@ -1,8 +1,8 @@
 -- What the last replies of a fetch say.
-use Rattle.std.proofs.Common.{◌≡◌, ℕ, ◌+◌, ◌<◌, ◌≤◌, ◌⊎◌, inl, inr, Bool, true, false, cond, List, [], ◌∷◌, ◌++◌, length, map, Option, Some, None, refl, sym, ap, ◌∙◌, subst, arith, ◌&&◌, ◌||◌, ◌==◌, not}
-use Rattle.std.specs.Prelude.{nat_le, nat_lt, is_none, option_and_then, unwrap_or, slice_get}
+use Rattle.std.proofs.Common.{◌≡◌, ℕ, ◌+◌, ◌<◌, ◌≤◌, ◌⊎◌, inl, inr, Bool, true, false, cond, List, [], ◌∷◌, length, map, Option, Some, None, refl, sym, ap, ◌∙◌, subst, arith, ◌&&◌, ◌==◌, not}
+use Rattle.std.specs.Prelude.{nat_le, is_none, option_and_then, unwrap_or}
 use Rattle.std.specs.Option.{option_map_or}
-use Rattle.std.proofs.lemmas.Bool.{ne_eqb, le-leb, le-ltb, and_parts}
+use Rattle.std.proofs.lemmas.Bool.{ne_eqb, le-leb, and_parts}
 use Rattle.vx_base.specs.Caches.{CacheState}
 use Rattle.vx_base.specs.Counts.{Rises}
 use Rattle.vx_base.specs.declared.segment.SegmentId.{SegmentId}
@@ -10,9 +10,9 @@ use Rattle.vx_base.specs.declared.segment.SegmentSpec.{SegmentSpec}
 use Rattle.vx_sched.specs.declared.fault.Fault.{Fault}
 use Rattle.vx_source.specs.Asks.{bad_spans, is_bad_span}
 use Rattle.vx_source.specs.Caching.{HasGot}
-use Rattle.vx_source.specs.Fetching.{number_in, at_register, at_poll, IsRegistered, Registering, IsPolled, Polling, IsTruePoll, AreTruePolls, IsAnswer, AreAnswers, IsFaultIn, IsFaultOf, AreFaultsOf, HasSlice, HaveSlices, AreReady, AreInTable, cache_failure, cache_failures}
-use Rattle.vx_source.specs.Fits.{World, IsRow, asks, covers, is_failing, driven, NoneDue}
-use Rattle.vx_source.specs.History.{Got, registers, polls, drives, Moment, moment, made, segment_of, is_live, is_held, read_of, joinable, joinable_by, if_open, joins, users, users_by, outcome_of, outcome_at, outcome_after, outcome_by, first_of, is_among, is_bad, is_polled, waits, waits_at, is_due}
+use Rattle.vx_source.specs.Fetching.{number_in, at_poll, IsRegistered, Registering, IsPolled, Polling, IsTruePoll, AreTruePolls, IsAnswer, AreAnswers, IsFaultIn, IsFaultOf, AreFaultsOf, HasSlice, HaveSlices, AreReady, AreInTable, cache_failure, cache_failures}
+use Rattle.vx_source.specs.Fits.{World, IsRow, asks, is_failing, driven, NoneDue}
+use Rattle.vx_source.specs.History.{Got, registers, polls, drives, Moment, moment, made, segment_of, is_live, read_of, joinable, if_open, joins, users, users_by, outcome_of, outcome_at, outcome_after, outcome_by, first_of, is_among, is_bad, is_polled, waits}
 use Rattle.vx_source.specs.Kept.{Kept, outcome_in}
 use Rattle.vx_source.specs.Stands.{Stands, IsNext, words}
 use Rattle.vx_source.specs.declared.fetching.Fetch.{Fetch}
@@ -21,7 +21,7 @@ use Rattle.vx_source.specs.declared.reply.Reply.{Reply}
 use Rattle.vx_source.specs.declared.reply.Reply.TheVariants.{Registered, MissingSegment, Ready, Pending, Failed, Dropped, NotLive, Driven}
 use Rattle.vx_source.specs.declared.span.Span.{Span}
 use Rattle.vx_source.specs.declared.span.SpanOutcome.{SpanOutcome}
-use Rattle.vx_source.specs.declared.span.SpanOutcome.TheVariants.{Good, Bad}
+use Rattle.vx_source.specs.declared.span.SpanOutcome.TheVariants.{Bad}
 use Rattle.vx_source.proofs.WordLemmas.{eq-self, that-self, live-used}
 use Rattle.vx_source.proofs.DriveLemmas.{rises-then}
 use Rattle.vx_source.proofs.SlotLemmas.{get-past}
@@ -59,9 +59,10 @@ pub are-map : (table : List SegmentSpec) (P Q : ℕ → ℕ → Type 0) (b from 
 are-map table P Q b from [] [] l to h = tt
 are-map table P Q b from [] (f ∷ more) l to h = absurd h
 are-map table P Q b from (id ∷ rest) [] l to h = absurd h
-are-map table P Q b from (id ∷ rest) (f ∷ more) l to h =
-    (at-map table P Q from id.0 f f.number (λ s n a p. to s n (omega (arith, a, l)) p) h.0,
-     are-map table P Q b (after_number from f.number) rest more (after-later from b id.0 table P f f.number l h.0) to h.1)
+are-map table P Q b from (id ∷ rest) (f ∷ more) l to h = (
+  at-map table P Q from id.0 f f.number (λ s n a p. to s n (omega (arith, a, l)) p) h.0,
+  are-map table P Q b (after_number from f.number) rest more (after-later from b id.0 table P f f.number l h.0) to h.1,
+)
 
 -- the bound may be less
 are-weaker : (table : List SegmentSpec) (P : ℕ → ℕ → Type 0) (a from : ℕ) (ids : List SegmentId) (fs : List Fetch) → a ≤ from → AreAt table P from ids fs → AreAt table P a ids fs
@@ -197,15 +198,18 @@ first-poll w past s n MissingSegment row h = absurd row
 first-poll w past s n (Ready buffer) row h = inl (h.inside, refl)
 first-poll w past s n Pending row h =
     let r = read-waits past (read_of past n) row.1 in
-    inr (refl, record {
-      live = h.live;
-      inside = h.inside;
-      segment = h.segment;
-      read = r.0;
-      read_is = r.1;
-      polled = ap (λ o. cond (option_map_or (λ q. q == r.0) o false) true (is_polled past r.0)) r.1 ∙ ap (λ b. cond b true (is_polled past r.0)) (that-self r.0);
-      unread = none-is (outcome_of past r.0) (and_parts (is_none (outcome_of past r.0)) (nat_le 1 (users past r.0)) r.2).0;
-    })
+    inr (
+      refl,
+      record {
+        live = h.live;
+        inside = h.inside;
+        segment = h.segment;
+        read = r.0;
+        read_is = r.1;
+        polled = ap (λ o. cond (option_map_or (λ q. q == r.0) o false) true (is_polled past r.0)) r.1 ∙ ap (λ b. cond b true (is_polled past r.0)) (that-self r.0);
+        unread = none-is (outcome_of past r.0) (and_parts (is_none (outcome_of past r.0)) (nat_le 1 (users past r.0)) r.2).0;
+      },
+    )
 first-poll w past s n (Failed (cause.Fault fault)) row h = let clash : true ≡ false = sym (ap is_bad row.1) ∙ h.fresh in cc
 first-poll w past s n (Failed cause.Cache) row h = absurd row
 first-poll w past s n Dropped row h = absurd row
@@ -378,8 +382,8 @@ last-polls w spans past from (id ∷ ids) (f ∷ fs) (g ∷ gs) now h p = step f
         ((answer-more w.table spans id.0 g.reply closed, later.0), (closed-fault w.table spans id.0 g.reply closed, later.1))
     step (Some n) a rest q more =
         let later = more (n + 1) (subst (λ x. AreAt w.table (IsRead w spans x) (n + 1) ids fs) (sym q.2)
-            (are-map w.table (IsRead w spans past) (IsRead w spans (moment (polls n) g.reply ∷ past)) (n + 1) (n + 1) ids fs (omega arith)
-            (λ s m l x. read-kept w spans past n s m g.reply q.1 (λ is. absurd (omega (arith, l, is))) x) rest)) in
+        (are-map w.table (IsRead w spans past) (IsRead w spans (moment (polls n) g.reply ∷ past)) (n + 1) (n + 1) ids fs (omega arith)
+        (λ s m l x. read-kept w spans past n s m g.reply q.1 (λ is. absurd (omega (arith, l, is))) x) rest)) in
         ((last-poll w spans past id.0 n g.reply q.1 a.1, later.0), (last-fault w spans past id.0 n g.reply q.1 a.1, later.1))
 
 -- ---- registers

@@ -1,13 +1,13 @@
 -- Segments that are fetched in one call.
-use Rattle.std.proofs.Common.{◌≡◌, ℕ, ◌+◌, ◌<◌, ◌≤◌, ◌⊎◌, inl, inr, Bool, true, false, List, [], ◌∷◌, ◌++◌, length, map, drop, get_or, Option, Some, None, refl, sym, ap, ◌∙◌, subst, arith, append_assoc, drop-cons, add-one, ◌&&◌, not}
+use Rattle.std.proofs.Common.{◌≡◌, ℕ, ◌+◌, ◌<◌, ◌≤◌, inl, inr, List, [], ◌∷◌, ◌++◌, length, map, drop, get_or, Option, Some, None, refl, sym, ap, ◌∙◌, subst, append_assoc, drop-cons, add-one, ◌&&◌, not}
 use Rattle.std.proofs.lemmas.List.{append-nil, drop_all}
 use Rattle.vx_base.specs.Asking.{Log}
 use Rattle.vx_base.specs.Caches.{CacheState}
 use Rattle.vx_base.specs.declared.segment.SegmentId.{SegmentId}
 use Rattle.vx_source.specs.Asks.{Grew, asked_by}
-use Rattle.vx_source.specs.Bytes.{HasBytes, TellsSlices, IsTrueReply}
+use Rattle.vx_source.specs.Bytes.{IsTrueReply}
 use Rattle.vx_source.specs.Drives.{StopsDrive}
-use Rattle.vx_source.specs.Fetching.{at_register, at_poll, IsRegistered, Registering, IsPolled, Polling, Fetches, RegistersSome, StopsRegisters, PollsSome, StopsPolls, StopsFirst, StopsInDrive, StopsAgain, StopsFetch, IsTruePoll, AreTruePolls}
+use Rattle.vx_source.specs.Fetching.{at_register, at_poll, IsRegistered, Registering, IsPolled, Polling, Fetches, RegistersSome, StopsRegisters, PollsSome, StopsPolls, StopsFetch, IsTruePoll, AreTruePolls}
 use Rattle.vx_source.specs.Fits.{World, IsRow, covers, driven}
 use Rattle.vx_source.specs.History.{polls, drives, Moment, moment, made, segment_of, is_held, read_of, outcome_of}
 use Rattle.vx_source.specs.Kept.{Kept}
@@ -241,9 +241,12 @@ stops-registers w past log before after ids k s = inl (s, refl)
 -- or among the first polls
 pub stops-first : (w : World) (past : List Moment) (log : Option Log) (before after : CacheState) (ids : List SegmentId) (first : List Fetch) (k k' : Kept) → RegistersSome w past before after ids [] first k
     → ((h : List Moment) → Stands w h k → StopsPolls w h first k') → StopsFetch w past log log before after ids k'
-stops-first w past log before after ids first k k' h stopped = inr (inl (record {
-  registered = h.now;
-  first = first;
-  registers = registers-whole w past before after ids first k h;
-  stops = stopped h.now h.stands;
-}, refl))
+stops-first w past log before after ids first k k' h stopped = inr (inl (
+  record {
+    registered = h.now;
+    first = first;
+    registers = registers-whole w past before after ids first k h;
+    stops = stopped h.now h.stands;
+  },
+  refl,
+))

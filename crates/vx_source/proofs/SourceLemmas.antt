@@ -1,17 +1,15 @@
 -- A session with its reader and its cache, which stands for some history: what holds of every history then.
-use Rattle.std.proofs.Common.{◌≡◌, ℕ, ◌+◌, ◌≤◌, Bool, true, false, cond, List, [], ◌∷◌, length, map, Option, Some, None, Result, Ok, Err, refl, sym, ap, ◌∙◌, subst, arith}
-use Rattle.std.specs.Prelude.{slice_get, nat_le, IfOk}
+use Rattle.std.proofs.Common.{◌≡◌, ℕ, List, [], ◌∷◌, Some, refl, sym, ◌∙◌, subst}
 use Rattle.std.specs.Coded.{Coded, code_by, coded×, le_prop, coded_ℕ, coded_list, Unit-prop}
 use mathlib.Core.HLevel.{×_prop, ⊥_prop, Π_prop}
 use mathlib.Core.Logic.{∥∥₁_elim, ∥∥₁_map, ∥∥₁_prop}
 use base.Stored.{Coded-set}
-use Rattle.vx_base.specs.Buffer.{Buffer, bytes_at}
 use Rattle.vx_base.specs.Counts.{Rises}
 use Rattle.vx_base.specs.declared.segment.SegmentId.{SegmentId}
 use Rattle.vx_base.specs.declared.segment.SegmentSpec.{SegmentSpec}
 use Rattle.vx_base.specs.Caches.{CacheState}
 use Rattle.vx_base.specs.Readers.{ReaderState}
-use Rattle.vx_source.specs.Bytes.{IsSlice, HasBytes, TellsSlices}
+use Rattle.vx_source.specs.Bytes.{HasBytes, TellsSlices}
 use Rattle.vx_source.specs.Fetching.{IsAnswer, AreAnswers, HasSlice, HaveSlices}
 use Rattle.vx_source.specs.Fits.{World}
 use Rattle.vx_source.specs.History.{Moment}

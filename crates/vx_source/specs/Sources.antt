@@ -1,5 +1,5 @@
 -- What sources of segments tell, and what their calls answer.
-use Rattle.std.specs.Prelude.{◌≡◌, ℕ, ◌+◌, ◌≤◌, ◌<◌, nat_le, Bool, true, false, List, [], length, Option, Some, None, Result, Ok, Err, IfOk, OnOk, slice_get, if◌then◌else◌}
+use Rattle.std.specs.Prelude.{◌≡◌, ℕ, ◌+◌, ◌≤◌, ◌<◌, nat_le, Bool, true, false, List, [], length, Option, Some, None, Result, Ok, Err, OnOk, slice_get, if◌then◌else◌}
 use Rattle.vx_base.specs.Buffer.{Buffer, bytes_at}
 use Rattle.vx_base.specs.Counts.{Rises, last_count}
 use Rattle.vx_base.specs.declared.segment.SegmentSpec.{SegmentSpec}

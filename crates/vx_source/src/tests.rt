@@ -317,7 +317,12 @@ fn segments_are_fetched_in_one_drive(rt: HostRuntime) -> Result<(), Fail> {
     let mut reader = letters(rt.alloc(), wrongs)?;
     let mut cache = empty_cache(rt.alloc(), Vec::new(rt.alloc()));
     let ids = [SegmentId(1), SegmentId(0), SegmentId(3), SegmentId(2)];
-    let wants = [Want::Ready(b'e'), Want::Ready(b'a'), Want::Missing, Want::Failed];
+    let wants = [
+        Want::Ready(b'e'),
+        Want::Ready(b'a'),
+        Want::Missing,
+        Want::Failed,
+    ];
     assert!(rt; session.made() == 0 && session.concurrency() <= reader.concurrency());
     let fetched = session.segments(rt.alloc(), &mut reader, &mut cache, &ids)?;
     assert!(rt; fetched.replies.len() == wants.len() && fetched.spans.len() == 2);

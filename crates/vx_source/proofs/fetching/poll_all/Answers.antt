@@ -1,4 +1,4 @@
-use Rattle.std.proofs.Common.{◌∙◌, [], ◌∷◌, ◌++◌, arith, sym, subst}
+use Rattle.std.proofs.Common.{◌∙◌, [], ◌∷◌, ◌++◌, arith, subst}
 use Rattle.std.proofs.lemmas.List.{append-nil}
 use Rattle.vx_source.specs.Fetching.{AreTruePolls}
 use Rattle.vx_source.proofs.DriveLemmas.{on-err}
@@ -41,7 +41,9 @@ returns-in_err-push-clause-bytes c = λ w past file st b.
 
 pub returns-in_err-push-clause-stopped : goal.returns-in_err-push-clause-stopped
 returns-in_err-push-clause-stopped c = on-err c.from_residual-in_err-push.result _ (λ w past st.
-    let steps = c.in-Some.ensures.steps in
-    (c.next.new.self.rest.items, c.loop-fetch.polled.items ++ c.in_ok-next.next ∷ [],
-    polls-one w past c.args.fetches.items c.next.new.self.rest.items c.loop-fetch.polled.items c.in-Some.fetch c.in_ok-next.next c.loop-fetch.session c.poll_open.new.session
-    (rw steps.0 at (c.loop-fetch.invariant.polled w past st)) (λ h s. c.in_ok-next.ensures.polled w h s)))
+    let steps = c.in-Some.ensures.steps in (
+      c.next.new.self.rest.items,
+      c.loop-fetch.polled.items ++ c.in_ok-next.next ∷ [],
+      polls-one w past c.args.fetches.items c.next.new.self.rest.items c.loop-fetch.polled.items c.in-Some.fetch c.in_ok-next.next c.loop-fetch.session c.poll_open.new.session
+          (rw steps.0 at (c.loop-fetch.invariant.polled w past st)) (λ h s. c.in_ok-next.ensures.polled w h s),
+    ))

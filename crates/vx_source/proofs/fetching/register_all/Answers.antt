@@ -1,4 +1,4 @@
-use Rattle.std.proofs.Common.{◌∙◌, ◌+◌, ◌≤◌, drop, length, refl, arith, sym}
+use Rattle.std.proofs.Common.{◌∙◌, drop, refl, arith}
 use Rattle.vx_base.specs.Caches.{same_cache, same_cache-then}
 use Rattle.vx_source.proofs.DriveLemmas.{on-err}
 use Rattle.vx_source.proofs.FetchLemmas.{registers-none, registers-one}
@@ -48,10 +48,13 @@ returns-in_err-reply-clause-bytes g c = λ w past file st h t.
 pub returns-in_err-push-clause-stopped : goal.returns-in_err-push-clause-stopped
 returns-in_err-push-clause-stopped g c = on-err c.from_residual-in_err-push.result _ (λ w past st.
     let cache = g.C.SegmentCache.state in
-    let i = c.loop-id.invariant in
-    (cache c.register.new.cache, _, _,
-    registers-one w past (cache c.args.cache.now) (cache c.loop-id.cache) (cache c.register.new.cache) c.args.ids.now c.loop-id.id-index (record { 0 = 0 }) c.loop-id.fetches.items c.loop-id.session c.register.new.self
-    c.in_ok-reply.reply (omega arith) (i.registered w past st) (λ h s. c.in_ok-reply.ensures.registers w h s)))
+    let i = c.loop-id.invariant in (
+      cache c.register.new.cache,
+      _,
+      _,
+      registers-one w past (cache c.args.cache.now) (cache c.loop-id.cache) (cache c.register.new.cache) c.args.ids.now c.loop-id.id-index (record { 0 = 0 }) c.loop-id.fetches.items c.loop-id.session c.register.new.self
+          c.in_ok-reply.reply (omega arith) (i.registered w past st) (λ h s. c.in_ok-reply.ensures.registers w h s),
+    ))
 
 pub returns-in_err-push-clause-bytes : goal.returns-in_err-push-clause-bytes
 returns-in_err-push-clause-bytes g c = λ w past file st h t.

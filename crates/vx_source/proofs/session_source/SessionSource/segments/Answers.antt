@@ -7,7 +7,7 @@ use Rattle.vx_source.proofs.SourceLemmas.{answers-all, rises-all, same-all, tabl
 use Rattle.vx_source.proofs.session_source.SessionSource.segments.Goals as goal
 
 pub invariant_of-self : goal.invariant_of-self
-invariant_of-self g c = 
+invariant_of-self g c =
     let room = c.make_room.new.session in
     let history = c.make_room.ensures.history c.args.self.now.history in
     let e = c.segments.ensures in
@@ -64,33 +64,33 @@ returns-clause-sound g c = λ file never told inside.
     c.in_ok-fetched.ensures.sound w past file never told st (subst (EndsWithin (length file)) (sym c.make_room.ensures.table ∙ st.table) inside))
 
 pub returns-in_err-fetched-clause-table : goal.returns-in_err-fetched-clause-table
-returns-in_err-fetched-clause-table g c = 
+returns-in_err-fetched-clause-table g c =
     let room = c.make_room.new.session in
     let history = c.make_room.ensures.history c.args.self.now.history in
     table-all room history c.segments.new.self (λ w past st. c.in_err-fetched.ensures.stands w past st) ∙ c.make_room.ensures.table
 
 pub returns-clause-table : goal.returns-clause-table
-returns-clause-table g c = 
+returns-clause-table g c =
     let room = c.make_room.new.session in
     let history = c.make_room.ensures.history c.args.self.now.history in
     table-all room history c.segments.new.self (λ w past st. c.in_ok-fetched.ensures.stands w past st) ∙ c.make_room.ensures.table
 
 pub returns-clause-answers : goal.returns-clause-answers
-returns-clause-answers g c = 
+returns-clause-answers g c =
     let room = c.make_room.new.session in
     let history = c.make_room.ensures.history c.args.self.now.history in
     let f = c.in_ok-fetched.fetched in
     subst (λ t. AreAnswers t f.spans c.args.ids.now f.replies) c.make_room.ensures.table (answers-all room history f.spans c.args.ids.now f.replies (λ w past st. c.in_ok-fetched.ensures.answers w past st))
 
 pub returns-clause-ready : goal.returns-clause-ready
-returns-clause-ready g c = 
+returns-clause-ready g c =
     let room = c.make_room.new.session in
     let history = c.make_room.ensures.history c.args.self.now.history in
     let f = c.in_ok-fetched.fetched in
     ready-all c.args.self.now.session.table f.spans c.args.ids.now f.replies (subst (λ t. AreAnswers t f.spans c.args.ids.now f.replies) c.make_room.ensures.table (answers-all room history f.spans c.args.ids.now f.replies (λ w past st. c.in_ok-fetched.ensures.answers w past st)))
 
 pub returns-clause-failures : goal.returns-clause-failures
-returns-clause-failures g c = 
+returns-clause-failures g c =
     let reader = g.R.Reader.state in
     let cache = g.C.SegmentCache.state in
     let room = c.make_room.new.session in
