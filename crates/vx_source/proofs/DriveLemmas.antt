@@ -303,6 +303,10 @@ rises-then a b x y z h k =
     record { later = omega (arith, l, m); risen = omega (arith, r, s, l, m) }
 
 -- what the turns of a drive asked so far
+-- spans of which none failed
+pub none-bad : (done reports all : List Span) → all ≡ done ++ reports → bad_spans reports ≡ 0 → bad_spans all ≡ bad_spans done
+none-bad done reports all e none = let same = ap bad_spans e ∙ bad-append done reports in omega (arith, same, none)
+
 pub record Asking (done : List Span) (before now : ReaderState) : Type 0 where
   pub log : Grew (asked_by done) before.log now.log
   pub rises : Rises (bad_spans done) before.faults now.faults

@@ -74,6 +74,7 @@ module _ {E : Type 0} (cores : List sched.Span) (before now : ReaderState) where
     rises = subst (λ n. Rises n before.faults now.faults) (bad-reports cores outcomes.items h.places ∙ ap bad_spans (sym reports)) h.rises;
     memory = tt;
     sound = h.sound;
+    complete = λ bytes never told inside. ap bad_spans reports ∙ sym (bad-reports cores outcomes.items h.places) ∙ h.complete bytes never told inside;
   }
 
   -- memory was wanting after the reader answered
@@ -86,4 +87,5 @@ module _ {E : Type 0} (cores : List sched.Span) (before now : ReaderState) where
     rises = tt;
     memory = record { more = log_of (map request_of cores) outcomes.items; asked = inr (ranges-log (map request_of cores) outcomes.items h.places); grew = h.log };
     sound = h.sound;
+    complete = tt;
   }

@@ -3,6 +3,8 @@ pub mod BytesLemmas
 pub mod CutLemmas
 pub mod DriveLemmas
 pub mod EndLemmas
+pub mod AnswerLemmas
+pub mod FetchLemmas
 pub mod FilingLemmas
 pub mod FreshLemmas
 pub mod FrontLemmas
@@ -15,6 +17,7 @@ pub mod RegisterLemmas
 pub mod ScriptLemmas
 pub mod SettingLemmas
 pub mod SlotLemmas
+pub mod SourceLemmas
 pub mod SpanLemmas
 pub mod StepLemmas
 pub mod TallyLemmas

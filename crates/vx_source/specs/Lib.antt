@@ -4,6 +4,7 @@ pub mod Bytes
 pub mod Caching
 pub mod Drives
 pub mod Events
+pub mod Fetching
 pub mod Fits
 pub mod History
 pub mod Keeping

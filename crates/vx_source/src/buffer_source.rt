@@ -1,7 +1,7 @@
 //! The segments of a file in memory.
 ghost use Rattle.std.specs.Prelude.{◌≡◌, ◌+◌, nat_le};
 ghost use Rattle.vx_base.specs.Checks.{Gives};
-ghost use Rattle.vx_source.specs.Sources.{in_memory, segment_in, tells};
+ghost use Rattle.vx_source.specs.Sources.{IsFileInMemory, in_memory, segment_in, tells};
 
 use crate::{SegmentSource, SourceError};
 use std::alloc::Global;
@@ -56,6 +56,8 @@ impl BufferSegmentSource {
 
 impl SegmentSource for BufferSegmentSource {
     ghost state = { in_memory };
+
+    ghost serves = { IsFileInMemory };
 
     fn segment(&mut self, alloc: Global, id: SegmentId) -> Result<ByteBuffer, SourceError> {
         self.request(alloc, id)

@@ -3,6 +3,7 @@
 #![tactic(auto)]
 
 mod buffer_source;
+mod fetching;
 mod filing;
 mod initial;
 mod law;
@@ -13,6 +14,7 @@ mod reply;
 mod request;
 mod segment_source;
 mod session;
+mod session_source;
 mod slots;
 mod span;
 mod tail;
@@ -21,11 +23,13 @@ mod telling;
 mod tests;
 
 pub use buffer_source::BufferSegmentSource;
+pub use fetching::Fetched;
 pub use initial::InitialReadSegmentCache;
 pub use law::law_of_sessions;
 pub use lru_segments::LruSegments;
 pub use reply::{FailCause, Reply};
 pub use segment_source::{SegmentSource, SourceError};
 pub use session::Session;
+pub use session_source::SessionSource;
 pub use span::{Span, SpanOutcome};
 pub use tail::Tail;

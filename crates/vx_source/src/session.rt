@@ -14,7 +14,7 @@ ghost use Rattle.vx_source.specs.Bytes.{HasBytes, IsEnd, TellsSlices, IsEntry, I
 ghost use Rattle.vx_source.specs.Drives.{IsTurned, IsLost, StopsDrive, WaitsWithin};
 ghost use Rattle.vx_source.specs.Puts.{PutsBy, puts_of};
 ghost use Rattle.vx_source.specs.declared.reply.Reply.TheVariants.{Driven};
-ghost use Rattle.vx_base.specs.Caches.{SameCache};
+ghost use Rattle.vx_base.specs.Caches.{SameCache, OldEntries};
 ghost use Rattle.vx_source.specs.Caching.{HasGot};
 ghost use Rattle.vx_source.specs.Events.{metrics};
 ghost use Rattle.vx_source.specs.Fits.{World, covered_from};
@@ -173,6 +173,8 @@ impl Session {
         ensures stands { (w : World) (past : List Moment) → Stands w past self.old → Stands w [] self.new }
         ensures bytes { (file : List ℕ) → HasBytes file self.old → HasBytes file self.new }
         ensures settings { self.new.idle ≡ self.old.idle }
+        ensures table { self.new.table ≡ self.old.table }
+        ensures made { self.new.requests ≡ [] }
     {
         prove!(self.core.concurrency() >= 1);
         self.core = State::new(
@@ -240,6 +242,8 @@ impl Session {
         ensures is { IfOk result (IsLook self.now id.0) }
         ensures entry { IfOk result (IsEntry id.0 (C.state cache.old)) }
         ensures got { IfOk result (λ look. HasGot (is_asked self.now id.0) id.0 (C.state cache.old) (C.state cache.new) (got_of look)) }
+        ensures from { OldEntries (C.state cache.old).entries (C.state cache.new).entries }
+        ensures tells { is_some (C.state cache.new).entries ≡ is_some (C.state cache.old).entries }
         ensures same { SameCache (C.state cache.old) (C.state cache.new) }
     {
         let Some(spec) = self.place(id.0 as usize) else {
@@ -508,7 +512,7 @@ impl Session {
             Registers w past id.0 (C.state cache.old) (C.state cache.new) reply self.new) }
         ensures bytes { OnOk result ((w : World) (past : List Moment) (file : List ℕ) → Stands w past self.old → HasBytes file self.old →
             TellsSlices file self.old.table (C.state cache.old) → HasBytes file self.new) }
-        ensures slices { OnOk result ((file : List ℕ) (table : List SegmentSpec) → TellsSlices file table (C.state cache.old) → TellsSlices file table (C.state cache.new)) }
+        ensures slices { (file : List ℕ) (table : List SegmentSpec) → TellsSlices file table (C.state cache.old) → TellsSlices file table (C.state cache.new) }
         ensures settings { self.new.idle ≡ self.old.idle }
         ensures room { length self.new.requests ≤ length self.old.requests + 1 }
         ensures err { OnErr result (self.new ≡ self.old) }
@@ -624,6 +628,8 @@ impl Session {
         ensures made { length self.new.requests ≡ length self.old.requests }
         ensures steady { (file : List ℕ) → (R.state reader.old).never_fails ≡ true → (R.state reader.old).bytes ≡ Some file →
             WaitsWithin (length file) self.old → (R.state reader.new).faults ≡ (R.state reader.old).faults }
+        ensures sound { IfOk result (λ _. (file : List ℕ) → (R.state reader.old).never_fails ≡ true → (R.state reader.old).bytes ≡ Some file →
+            WaitsWithin (length file) self.old → bad_spans done.new.items ≡ bad_spans done.old.items) }
         ensures same { SameReader (R.state reader.old) (R.state reader.new) }
         ensures same_cache { SameCache (C.state cache.old) (C.state cache.new) }
     {
@@ -654,11 +660,13 @@ impl Session {
         ensures bad { IfOk result (λ spans. Rises (bad_spans spans.items) (R.state reader.old).faults (R.state reader.new).faults) }
         ensures bytes { (w : World) (past : List Moment) (file : List ℕ) → (R.state reader.old).bytes ≡ Some file → Stands w past self.old →
             HasBytes file self.old → HasBytes file self.new }
-        ensures slices { OnOk result ((w : World) (past : List Moment) (file : List ℕ) → (R.state reader.old).bytes ≡ Some file → Stands w past self.old →
-            HasBytes file self.old → TellsSlices file w.table (C.state cache.old) → TellsSlices file w.table (C.state cache.new)) }
-        // The count of a reader that never fails stands still, where each segment ends within the file.
+        ensures slices { (w : World) (past : List Moment) (file : List ℕ) → (R.state reader.old).bytes ≡ Some file → Stands w past self.old →
+            HasBytes file self.old → TellsSlices file w.table (C.state cache.old) → TellsSlices file w.table (C.state cache.new) }
+        // Of a reader that never fails the count stands still, and no span fails, where each segment ends within the file.
         ensures steady { (w : World) (past : List Moment) (file : List ℕ) → (R.state reader.old).never_fails ≡ true → (R.state reader.old).bytes ≡ Some file →
             Stands w past self.old → EndsWithin (length file) w.table → (R.state reader.new).faults ≡ (R.state reader.old).faults }
+        ensures sound { IfOk result (λ spans. (w : World) (past : List Moment) (file : List ℕ) → (R.state reader.old).never_fails ≡ true → (R.state reader.old).bytes ≡ Some file →
+            Stands w past self.old → EndsWithin (length file) w.table → bad_spans spans.items ≡ 0) }
         ensures stopped { OnErr result ((w : World) (past : List Moment) → Stands w past self.old →
             StopsDrive w past (R.state reader.old).log (R.state reader.new).log (C.state cache.old) (C.state cache.new) self.new) }
         ensures puts { IfOk result (λ spans. (w : World) (past : List Moment) → Stands w past self.old →

@@ -1,10 +1,11 @@
 //! Worked rows of sessions, with ample memory.
-ghost use Rattle.std.specs.Prelude.{◌≡◌, ◌+◌, ◌≤◌, Some, length};
+ghost use Rattle.std.specs.Prelude.{◌≡◌, ◌+◌, ◌≤◌, IfOk, Some, length};
+ghost use Rattle.vx_source.specs.Sources.{HasHistory};
 ghost use Rattle.vx_source.specs.declared.tail.Tail.{Tail};
 
 use crate::{
     BufferSegmentSource, FailCause, InitialReadSegmentCache, LruSegments, Reply, SegmentSource,
-    Session, SourceError, SpanOutcome, Tail,
+    Session, SessionSource, SourceError, SpanOutcome, Tail,
 };
 use std::alloc::Global;
 use std::collections::BTreeMap;
@@ -88,6 +89,19 @@ fn meets(reply: &Reply, want: Want) -> bool {
         (Reply::Driven(spans), Want::Driven(all, failed)) => {
             spans.len() == all && bad(spans.as_slice()) == failed
         }
+        _ => false,
+    }
+}
+
+// Whether a source's answer is the wanted one.
+fn is_found(found: &Result<ByteBuffer, SourceError>, want: Want) -> bool {
+    match (found, want) {
+        (Ok(bytes), Want::Ready(first)) => {
+            bytes.len() == 4 && bytes.as_slice().first() == Some(&first)
+        }
+        (Err(SourceError::MissingSegment), Want::Missing) => true,
+        (Err(SourceError::Fault(_)), Want::Failed) => true,
+        (Err(SourceError::CacheFault), Want::FailedCache) => true,
         _ => false,
     }
 }
@@ -283,6 +297,42 @@ fn the_tail_is_looked_at_before_the_cache(rt: HostRuntime) -> Result<(), Fail> {
     )
 }
 
+// A session for three segments, at 0, 4 and 12, that merges reads at most 2 bytes apart.
+fn three_segments(alloc: Global) -> Result<Session, Fail>
+    ensures { IfOk result HasHistory }
+{
+    let segments = vec![in alloc; segment(0), segment(4), segment(12)]?;
+    Ok(Session::new(alloc, segments, Some(2), None, 2, None)?)
+}
+
+#[test]
+fn segments_are_fetched_in_one_drive(rt: HostRuntime) -> Result<(), Fail> {
+    let mut session = three_segments(rt.alloc())?;
+    let wrongs = vec![in rt.alloc();
+        Mischief {
+            at: 1,
+            kind: MischiefKind::Fail
+        },
+    ]?;
+    let mut reader = letters(rt.alloc(), wrongs)?;
+    let mut cache = empty_cache(rt.alloc(), Vec::new(rt.alloc()));
+    let ids = [SegmentId(1), SegmentId(0), SegmentId(3), SegmentId(2)];
+    let wants = [
+        Want::Ready(b'e'),
+        Want::Ready(b'a'),
+        Want::Missing,
+        Want::Failed,
+    ];
+    assert!(rt; session.made() == 0 && session.concurrency() <= reader.concurrency());
+    let fetched = session.segments(rt.alloc(), &mut reader, &mut cache, &ids)?;
+    assert!(rt; fetched.replies.len() == wants.len() && fetched.spans.len() == 2);
+    for (reply, want) in fetched.replies.as_slice().iter().zip(wants) {
+        assert!(rt; meets(reply, want));
+    }
+    assert!(rt; bad(fetched.spans.as_slice()) == 1 && reader.asked().len() == 2);
+    Ok(())
+}
+
 #[test]
 fn the_segment_that_was_used_least_recently_goes(rt: HostRuntime) -> Result<(), Fail> {
     let mut cache = LruSegments::new(rt.alloc(), 2)?;
@@ -321,6 +371,37 @@ fn a_segment_of_the_initial_read_stays(rt: HostRuntime) -> Result<(), Fail> {
     assert!(rt; first.is_some_and(|bytes| bytes.as_slice().first() == Some(&b'a')));
     assert!(rt; cache.get(rt.alloc(), SegmentId(1))?.is_none());
     assert!(rt; cache.get(rt.alloc(), SegmentId(2))?.is_some());
+    Ok(())
+}
+
+#[test]
+fn a_source_over_a_session_gives_its_segments(rt: HostRuntime) -> Result<(), Fail> {
+    let session = three_segments(rt.alloc())?;
+    let wrongs = vec![in rt.alloc();
+        Mischief {
+            at: 1,
+            kind: MischiefKind::Fail
+        },
+    ]?;
+    let reader = letters(rt.alloc(), wrongs)?;
+    assert!(rt; session.concurrency() <= reader.concurrency());
+    // The cache is asked for each segment that the table has, and each that was read is put into it.
+    let cache = empty_cache(rt.alloc(), vec![in rt.alloc(); 5u64]?);
+    let mut source = SessionSource::new(session, reader, cache);
+    let rows = [
+        (1u32, Want::Ready(b'e')),
+        (2, Want::Failed),
+        (3, Want::Missing),
+        (2, Want::Ready(b'm')),
+        (0, Want::FailedCache),
+        (2, Want::Ready(b'm')),
+    ];
+    for (id, want) in rows {
+        let found = source.segment(rt.alloc(), SegmentId(id));
+        assert!(rt; is_found(&found, want));
+    }
+    let (_, reader, _) = source.into_parts();
+    assert!(rt; reader.asked().len() == 3);
     Ok(())
 }
 

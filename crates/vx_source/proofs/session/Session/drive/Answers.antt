@@ -23,6 +23,9 @@ loop-done-preserved g c =
       steady = λ w past file never told st inside.
           c.in_ok-turn.ensures.steady file (i.same.never_fails ∙ never) (i.same.bytes ∙ told) (stands-inside w (words w (driven c.loop-done.done.items past)) (length file) c.loop-done.self (i.driving w past st).stands inside)
           ∙ i.steady w past file never told st inside;
+      sound = λ w past file never told st inside.
+          c.in_ok-turn.ensures.sound file (i.same.never_fails ∙ never) (i.same.bytes ∙ told) (stands-inside w (words w (driven c.loop-done.done.items past)) (length file) c.loop-done.self (i.driving w past st).stands inside)
+          ∙ i.sound w past file never told st inside;
       made = c.in_ok-turn.ensures.made ∙ i.made;
       asking = asking-then c.loop-done.self c.turn.new.self c.loop-done.done.items c.turn.new.done.items (state c.args.reader.now) (state c.loop-done.reader) (state c.turn.new.reader) (cache c.loop-done.cache) (cache c.turn.new.cache) i.asking t.0;
       puts = λ w past st. turns-put w past c.loop-done.self c.turn.new.self c.loop-done.done.items c.turn.new.done.items (state c.loop-done.reader) (state c.turn.new.reader)
@@ -71,6 +74,7 @@ loop-done-init g c =
       bytes = λ w past file told st h. h;
       slices = λ w past file told st h t. t;
       steady = λ w past file never told st inside. refl;
+      sound = λ w past file never told st inside. refl;
       made = refl;
       puts = λ w past st. puts-start past (cache c.args.cache.now);
       same_cache = same_cache (cache c.args.cache.now);
@@ -105,8 +109,17 @@ returns-clause-steady g c = λ w past file never told st inside.
     c.in_ok-turn.ensures.steady file (i.same.never_fails ∙ never) (i.same.bytes ∙ told) (stands-inside w (words w (driven c.loop-done.done.items past)) (length file) c.loop-done.self (i.driving w past st).stands inside)
     ∙ i.steady w past file never told st inside
 
+pub returns-clause-sound : goal.returns-clause-sound
+returns-clause-sound g c = λ w past file never told st inside.
+    let i = c.loop-done.invariant in
+    c.in_ok-turn.ensures.sound file (i.same.never_fails ∙ never) (i.same.bytes ∙ told) (stands-inside w (words w (driven c.loop-done.done.items past)) (length file) c.loop-done.self (i.driving w past st).stands inside)
+    ∙ i.sound w past file never told st inside
+
 pub returns-in_err-turn-clause-steady : goal.returns-in_err-turn-clause-steady
 returns-in_err-turn-clause-steady g c = λ w past file never told st inside.
     let i = c.loop-done.invariant in
     c.in_err-turn.ensures.steady file (i.same.never_fails ∙ never) (i.same.bytes ∙ told) (stands-inside w (words w (driven c.loop-done.done.items past)) (length file) c.loop-done.self (i.driving w past st).stands inside)
     ∙ i.steady w past file never told st inside
+
+pub returns-in_err-turn-clause-slices : goal.returns-in_err-turn-clause-slices
+returns-in_err-turn-clause-slices g c = λ w past file told st h t. rw c.in_err-turn.ensures.err_cache (c.loop-done.invariant.slices w past file told st h t)

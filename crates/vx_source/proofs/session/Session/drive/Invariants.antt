@@ -4,6 +4,7 @@ use Rattle.vx_base.specs.Readers.{SameReader}
 use Rattle.vx_source.specs.Puts.{PutsBy}
 use Rattle.vx_sched.specs.Counting.{count_in}
 use Rattle.vx_sched.specs.declared.read.ReadState.TheVariants.{Polled}
+use Rattle.vx_source.specs.Asks.{bad_spans}
 use Rattle.vx_source.specs.Bytes.{HasBytes, TellsSlices}
 use Rattle.vx_source.specs.Fits.{World}
 use Rattle.vx_source.specs.History.{Moment}
@@ -24,6 +25,8 @@ invariant-loop-done g l =
           TellsSlices file w.table (cache l.fn.cache) → TellsSlices file w.table (cache l.cache);
       steady : (w : World) (past : List Moment) (file : List ℕ) → (state l.fn.reader).never_fails ≡ true → (state l.fn.reader).bytes ≡ Some file → Stands w past l.fn.self →
           EndsWithin (length file) w.table → (state l.reader).faults ≡ (state l.fn.reader).faults;
+      sound : (w : World) (past : List Moment) (file : List ℕ) → (state l.fn.reader).never_fails ≡ true → (state l.fn.reader).bytes ≡ Some file → Stands w past l.fn.self →
+          EndsWithin (length file) w.table → bad_spans l.done.items ≡ 0;
       made : length l.self.requests ≡ length l.fn.self.requests;
       asking : Asking l.done.items (state l.fn.reader) (state l.reader);
       idle : l.self.idle ≡ l.fn.self.idle;

@@ -26,11 +26,20 @@ returns-clause-bytes g c = λ w past file st h slices.
 pub returns-clause-slices : goal.returns-clause-slices
 returns-clause-slices g c = λ file table t.
     let state = g.C.SegmentCache.state in
-    let got = c.in_ok-look.ensures.got in
-    old-slices file table (state c.args.cache.now) (state c.look.new.cache) got.from got.tells t
+    old-slices file table (state c.args.cache.now) (state c.look.new.cache) c.in_ok-look.ensures.from c.in_ok-look.ensures.tells t
 
 pub returns-clause-settings : goal.returns-clause-settings
 returns-clause-settings g c = rw c.in_ok-reply.ensures.after (look-registered c.args.self.now c.args.id.0 c.in_ok-look.look).idle
 
 pub returns-clause-room : goal.returns-clause-room
 returns-clause-room g c = rw c.in_ok-reply.ensures.after (look-registered c.args.self.now c.args.id.0 c.in_ok-look.look).room
+
+pub returns-in_err-look-clause-slices : goal.returns-in_err-look-clause-slices
+returns-in_err-look-clause-slices g c = λ file table t.
+    let state = g.C.SegmentCache.state in
+    old-slices file table (state c.args.cache.now) (state c.look.new.cache) c.in_err-look.ensures.from c.in_err-look.ensures.tells t
+
+pub returns-in_err-reply-clause-slices : goal.returns-in_err-reply-clause-slices
+returns-in_err-reply-clause-slices g c = λ file table t.
+    let state = g.C.SegmentCache.state in
+    old-slices file table (state c.args.cache.now) (state c.look.new.cache) c.in_ok-look.ensures.from c.in_ok-look.ensures.tells t

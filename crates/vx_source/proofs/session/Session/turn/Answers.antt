@@ -1,6 +1,6 @@
 use Rattle.std.proofs.Common.{◌≤◌, length, arith, refl}
 use Rattle.std.proofs.lemmas.Bool.Decides.{nat_tests}
-use Rattle.vx_source.proofs.DriveLemmas.{on-err, lost-block, turned-count}
+use Rattle.vx_source.proofs.DriveLemmas.{on-err, lost-block, turned-count, none-bad}
 use Rattle.vx_source.proofs.InsideLemmas.{block-inside}
 use Rattle.vx_source.proofs.session.Session.turn.Goals as goal
 
@@ -52,3 +52,9 @@ returns-in_err-append-clause-steady g c = λ file never told inside.
 pub returns-clause-steady : goal.returns-clause-steady
 returns-clause-steady g c = λ file never told inside.
     (rw c.as_slice.ensures.value at c.in_ok-reports.ensures.cause).sound file never told (block-inside file c.args.self.now c.in_ok-spans.spans.items inside c.in_ok-spans.ensures.merge)
+
+pub returns-clause-sound : goal.returns-clause-sound
+returns-clause-sound g c = λ file never told inside.
+    let asked = (rw c.as_slice.ensures.value at c.in_ok-reports.ensures.cause) in
+    none-bad c.args.done.now.items c.in_ok-reports.field-0.reports.items c.append.new.self.items c.in_ok-append.ensures.items
+    (asked.complete file never told (block-inside file c.args.self.now c.in_ok-spans.spans.items inside c.in_ok-spans.ensures.merge))
