@@ -1,5 +1,6 @@
 pub mod Answering
 pub mod Covering
+pub mod Loadings
 pub mod Looking
 pub mod Openings
 pub mod Opens

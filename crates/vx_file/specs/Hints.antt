@@ -1,21 +1,22 @@
 -- What is known of a file before it is opened, and how much of it is read first.
-use Rattle.std.specs.Prelude.{◌≡◌, ℕ, max, List, length, Option, Some, None, Ok}
+use Rattle.std.specs.Prelude.{◌≡◌, ℕ, max, Bool, false, List, length, Option, Some, None, Ok}
 use Rattle.vx_data.specs.Dtype.{Dtype}
 use Rattle.vx_data.specs.Layout.{dtype_of}
 use Rattle.vx_footer.specs.Footers.{FooterContent}
 use Rattle.vx_footer.specs.Opening.{vx_grammar}
 use Rattle.vx_file.specs.declared.options.TheConstants.{LEAST_READ}
 
--- the size, the type of the rows and the footer, where they are supplied, and how many bytes the first read is to ask
--- for
+-- the size, the type of the rows and the footer, where they are supplied; how many bytes the first read is to ask for; and
+-- whether the values of the metadata are to be loaded
 pub record Hints : Type 0 where
   pub size : Option ℕ
   pub initial : ℕ
   pub dtype : Option Dtype
   pub footer : Option FooterContent
+  pub metadata : Bool
 
 abbrev pub no_hints : Hints
-no_hints = record { size = None; initial = 0; dtype = None; footer = None }
+no_hints = record { size = None; initial = 0; dtype = None; footer = None; metadata = false }
 
 -- how many bytes the first read asks for, or the whole file where it is shorter: never fewer than 65,535
 abbrev pub first_length : Hints → ℕ
@@ -41,8 +42,3 @@ IsSized hints file = IsSizeBeside hints.footer hints.size file
 abbrev pub IsFooterOf : Option FooterContent → List ℕ → Type 0
 IsFooterOf None file = Unit {0}
 IsFooterOf (Some footer) file = vx_grammar file (Some (dtype_of footer.layout)) ≡ Ok footer
-
--- what is supplied is true of the file
-pub record AreTrueHints (hints : Hints) (file : List ℕ) : Type 0 where
-  pub size : IsSizeOf hints.size file
-  pub footer : IsFooterOf hints.footer file

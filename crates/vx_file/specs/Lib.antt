@@ -1,9 +1,11 @@
 pub mod Covered
 pub mod Hints
+pub mod Loading
 pub mod Logs
 pub mod Memory
 pub mod Opened
 pub mod Plans
+pub mod Prepared
 pub mod Ranges
 pub mod Scripts
 pub mod Serving

@@ -3,6 +3,7 @@
 use Rattle.std.specs.Prelude.{ℕ, Bool, false, List, [], Option, Some, None, is_none, Result, unwrap_or}
 use Rattle.vx_base.specs.Caches.{Segments}
 use Rattle.vx_base.specs.Readers.{ReaderSettings}
+use Rattle.vx_base.specs.declared.segment.SegmentSpec.{SegmentSpec}
 use Rattle.vx_footer.specs.declared.error.OpenError.{OpenError}
 use Rattle.vx_footer.specs.Footers.{FooterContent, segment_table}
 use Rattle.vx_footer.specs.Opening.{vx_grammar, extent_check}
@@ -42,9 +43,12 @@ plan_with (Some footer) hints file = supplied_plan hints.size footer
 abbrev pub plan_of : Hints → List ℕ → Plan
 plan_of hints file = plan_with hints.footer hints file
 
--- what the replies are about: the segment table, where the tail begins, and the settings of the reader
+-- what the replies are about: a segment table, the settings of the reader, and where the tail begins, if one is read
+abbrev pub table_world : List SegmentSpec → ReaderSettings → Option ℕ → World
+table_world table settings start = world table settings.distance settings.max_read_size settings.concurrency start
+
 abbrev pub world_of : Plan → FooterContent → ReaderSettings → World
-world_of plan footer settings = world (segment_table footer) settings.distance settings.max_read_size settings.concurrency plan.start
+world_of plan footer settings = table_world (segment_table footer) settings plan.start
 
 -- the segments that the tail covers, if one is read
 abbrev pub covered_by : Plan → List ℕ → FooterContent → Segments

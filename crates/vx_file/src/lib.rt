@@ -3,9 +3,11 @@
 
 mod covered;
 mod memory;
+mod metadata;
 mod opened;
 mod opening;
 mod options;
+mod prepared;
 mod reading;
 mod served;
 mod serving;
@@ -13,6 +15,7 @@ mod step;
 mod steps;
 
 pub use memory::serve_in_memory;
+pub use metadata::MetadataValue;
 pub use options::ServeOptions;
 pub use served::{ServeError, Served};
 pub use serving::serve;

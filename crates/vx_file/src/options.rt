@@ -1,5 +1,5 @@
 //! How a file is opened.
-ghost use Rattle.std.specs.Prelude.{◌≡◌, IfOk, None, Some};
+ghost use Rattle.std.specs.Prelude.{◌≡◌, IfOk, None, Some, false};
 ghost use Rattle.std.specs.Option.{option_map};
 ghost use Rattle.vx_data.specs.Dtype.{dtype_view};
 ghost use Rattle.vx_footer.specs.Footers.{FooterValue};
@@ -22,6 +22,7 @@ pub struct ServeOptions {
     file_size: Option<u64>,
     dtype: Option<DType>,
     footer: Option<Footer>,
+    include_metadata: bool,
 }
 
 impl Model for ServeOptions {
@@ -38,13 +39,13 @@ impl Model for ServeOptions {
     ghost coded = { Prim.hlevel (codes, dtype_code, tree_code) };
 
     ghost view = { λ o. record { size = o.file_size; initial = o.initial_read_size; dtype = option_map dtype_view o.dtype;
-        footer = option_map (λ (f : FooterValue). f.content) o.footer } };
+        footer = option_map (λ (f : FooterValue). f.content) o.footer; metadata = o.include_metadata } };
 }
 
 impl ServeOptions {
     /// A file of which nothing is known.
     pub fn new(session: VortexSession) -> ServeOptions
-        ensures { result ≡ record { size = None; initial = 0; dtype = None; footer = None } }
+        ensures { result ≡ record { size = None; initial = 0; dtype = None; footer = None; metadata = false } }
     {
         ServeOptions {
             session,
@@ -52,6 +53,7 @@ impl ServeOptions {
             file_size: None,
             dtype: None,
             footer: None,
+            include_metadata: false,
         }
     }
 
@@ -91,6 +93,22 @@ impl ServeOptions {
         let mut changed = self;
         changed.footer = footer;
         changed
+    }
+
+    /// The same with the values of the metadata, or without them. They are loaded before a script is answered.
+    pub fn with_include_metadata(self, include_metadata: bool) -> ServeOptions
+        ensures { result ≡ record self { metadata = include_metadata } }
+    {
+        let mut changed = self;
+        changed.include_metadata = include_metadata;
+        changed
+    }
+
+    /// Whether the values of the metadata are to be loaded.
+    pub(crate) fn includes_metadata(&self) -> bool
+        ensures { result ≡ self.now.metadata }
+    {
+        self.include_metadata
     }
 
     /// The size of the file, where it is known.

@@ -1,6 +1,7 @@
 //! What serving a script gives.
 ghost use Rattle.std.specs.Prelude.{◌≡◌};
 
+use crate::MetadataValue;
 use std::alloc::AllocError;
 use thiserror::Error;
 use vx_base::{CacheError, Sequence};
@@ -8,10 +9,12 @@ use vx_footer::{Footer, OpenError};
 use vx_sched::Fault;
 use vx_source::Reply;
 
-/// A footer, the ranges that opening asked, and one reply for each step of a script.
+/// A footer, the values of the metadata, where they were loaded, the ranges that were asked before the script was answered,
+/// and one reply for each step of it.
 #[derive(Drop)]
 pub struct Served {
     pub footer: Footer,
+    pub metadata: Option<Sequence<MetadataValue>>,
     pub opening: Sequence<(u64, u64)>,
     pub replies: Sequence<Reply>,
 }

@@ -1,70 +1,20 @@
 //! Serves scripts: opens a file, and answers one reply a step.
-ghost use Rattle.std.specs.Prelude.{◌≡◌, [], ℕ, List, Some, true, Err, IfOk, IsOk, OnOk};
+ghost use Rattle.std.specs.Prelude.{◌≡◌, ℕ, List, Some, true, IsOk};
 ghost use Rattle.vx_base.specs.Caches.{SameCache};
-ghost use Rattle.vx_base.specs.Counts.{Rises};
 ghost use Rattle.vx_base.specs.Readers.{SameReader};
-ghost use Rattle.vx_base.specs.declared.segment_cache.CacheError.TheVariants as cache_error;
-ghost use Rattle.vx_source.specs.Bytes.{IsEnd, HasBytes};
-ghost use Rattle.vx_source.specs.Kept.{tail_start};
-ghost use Rattle.vx_source.specs.Puts.{Gains};
-ghost use Rattle.vx_source.specs.Stands.{AreFit, Stands, world};
-ghost use Rattle.vx_file.specs.Covered.{covered_from};
 ghost use Rattle.vx_file.specs.Hints.{IsSized, IsFooterOf};
 ghost use Rattle.vx_file.specs.Plans.{plan_of};
 ghost use Rattle.vx_file.specs.Serving.{HasCause, FaultRose, NamesCheck, StandsStill, Succeeds};
 
-use crate::covered::put_covered;
-use crate::opened::{Opened, open_file};
+use crate::prepared::{Prepared, prepare, session_of};
 use crate::steps::answer_steps;
 use crate::{ServeError, ServeOptions, Served, Step};
-use std::alloc::{AllocError, Global};
-use vx_base::{CacheError, Reader, SegmentCache, SegmentSpec};
-use vx_source::{Session, Tail};
-
-/// Puts the segments that the tail covers, if one was read, into the cache.
-fn put_tail<C: SegmentCache>(
-    alloc: Global,
-    cache: &mut C,
-    tail: &Option<Tail>,
-    segments: &[SegmentSpec],
-) -> Result<(), CacheError>
-    requires { AreFit segments.now tail.now }
-    ensures gains { OnOk result ((file : List ℕ) → IsEnd file tail.now → Gains (covered_from file (tail_start tail.now) segments.now) (C.state cache.old) (C.state cache.new)) }
-    ensures failed { result ≡ Err cache_error.Failed → Rises 1 (C.state cache.old).faults (C.state cache.new).faults }
-    ensures same { SameCache (C.state cache.old) (C.state cache.new) }
-{
-    match tail {
-        Some(tail) => put_covered(alloc, cache, tail, segments),
-        None => Ok(()),
-    }
-}
-
-/// A session for segments, over the tail of their file, if one was read, with the settings of its reader.
-fn session_of<R: Reader>(
-    alloc: Global,
-    reader: &R,
-    tail: Option<Tail>,
-    segments: &[SegmentSpec],
-) -> Result<Session, AllocError>
-    requires { AreFit segments.now tail }
-    ensures stands { IfOk result (Stands (world segments.now (R.state reader.now).distance (R.state reader.now).max_read_size (R.state reader.now).concurrency (tail_start tail)) []) }
-    ensures bytes { IfOk result (λ session. (file : List ℕ) → IsEnd file tail → HasBytes file session) }
-{
-    let concurrency = reader.concurrency();
-    prove!(concurrency >= 1);
-    let table = Vec::from_slice(alloc, segments)?;
-    Session::new(
-        alloc,
-        table,
-        reader.coalesce_distance(),
-        reader.max_read_size(),
-        concurrency,
-        tail,
-    )
-}
+use std::alloc::Global;
+use vx_base::{Reader, SegmentCache};
 
 /// Opens a file, from its tail or by the footer that is supplied, and answers a script, one reply a step. The cache
-/// is asked for segments that the tail does not cover, and given those that it covers and those that are read.
+/// is asked for segments that the tail does not cover, and given those that it covers and those that are read. Where the
+/// values of the metadata are asked for, they are loaded before, in a session of their own.
 pub fn serve<R: Reader, C: SegmentCache>(
     alloc: Global,
     options: ServeOptions,
@@ -89,14 +39,14 @@ pub fn serve<R: Reader, C: SegmentCache>(
     ensures same { SameReader (R.state reader.old) (R.state reader.new) }
     ensures same_cache { SameCache (C.state cache.old) (C.state cache.new) }
 {
-    let opened = open_file(alloc, &options, reader)?;
-    let Opened {
+    let prepared = prepare(alloc, &options, reader, cache)?;
+    let Prepared {
         footer,
         tail,
-        ranges,
-    } = opened;
+        opening,
+        metadata,
+    } = prepared;
     let segments = footer.segment_specs_with_metadata();
-    put_tail(alloc, cache, &tail, segments)?;
     let mut session = session_of(alloc, reader, tail, segments)?;
     let replies = match answer_steps(alloc, &mut session, reader, cache, script) {
         Ok(replies) => replies,
@@ -104,7 +54,8 @@ pub fn serve<R: Reader, C: SegmentCache>(
     };
     Ok(Served {
         footer,
-        opening: ranges,
+        metadata,
+        opening,
         replies,
     })
 }

@@ -5,7 +5,7 @@ use Rattle.vx_source.specs.Kept.{tail_start, LiesIn}
 use Rattle.vx_source.specs.Puts.{Gains}
 use Rattle.vx_source.proofs.PutLemmas.{gains-none}
 use Rattle.vx_file.specs.Covered.{covered_from}
-use Rattle.vx_file.proofs.serving.put_tail.Goals as goal
+use Rattle.vx_file.proofs.prepared.put_tail.Goals as goal
 
 pub put_covered-requires : goal.put_covered-requires
 put_covered-requires g c = λ n s e. subst (λ t. LiesIn t s) c.in-Some.is (c.requires.lies n s e)
