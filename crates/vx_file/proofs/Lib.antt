@@ -4,4 +4,5 @@ pub mod Loadings
 pub mod Looking
 pub mod Openings
 pub mod Opens
+pub mod Prepares
 pub mod Serves

@@ -1,5 +1,5 @@
 -- A script that was answered over an opened file was served from it.
-use Rattle.std.proofs.Common.{◌≡◌, ℕ, ◌+◌, Bool, List, [], ◌∷◌, ◌++◌, map, drop, Option, Some, None, Result, Err, refl, sym, ap, subst, ◌∙◌, arith, ◌⊎◌, inl, inr}
+use Rattle.std.proofs.Common.{◌≡◌, ℕ, ◌+◌, Bool, List, [], ◌∷◌, ◌++◌, map, drop, Option, Some, None, Result, Err, refl, sym, ap, subst, ◌∙◌, arith, append_assoc, ◌⊎◌, inl, inr}
 use Rattle.std.specs.Option.{option_map}
 use Rattle.std.specs.Result.{is_ok}
 use Rattle.std.proofs.lemmas.List.{append-nil}
@@ -11,7 +11,7 @@ use Rattle.vx_base.specs.declared.segment_cache.CacheError.{CacheError}
 use Rattle.vx_base.specs.declared.segment_cache.CacheError.TheVariants as cache_error
 use Rattle.vx_base.specs.declared.segment.SegmentSpec.{SegmentSpec}
 use Rattle.vx_footer.specs.Footers.{segment_table}
-use Rattle.vx_source.specs.Asks.{Grew}
+use Rattle.vx_source.specs.Asks.{Grew, asked_by, bad_spans}
 use Rattle.vx_source.specs.Bytes.{HasBytes, TellsSlices, IsEnd}
 use Rattle.vx_source.specs.Caching.{HasGot}
 use Rattle.vx_source.specs.Fits.{World, IsRow, asks}
@@ -25,17 +25,17 @@ use Rattle.vx_source.specs.declared.reply.Reply.TheVariants.{Registered, Missing
 use Rattle.vx_source.specs.declared.tail.Tail.{Tail}
 use Rattle.vx_source.proofs.DriveLemmas.{grew-then, rises-then}
 use Rattle.vx_source.proofs.PutLemmas.{gains-none, gains-then, ids-append}
-use Rattle.vx_file.specs.declared.opened.Opened.{Opened}
+use Rattle.vx_file.specs.declared.prepared.Prepared.{Prepared}
 use Rattle.vx_file.specs.declared.step.Step.{Step}
 use Rattle.vx_file.specs.declared.served.Served.{Served}
 use Rattle.vx_file.specs.declared.served.ServeError.{ServeError}
 use Rattle.vx_file.specs.declared.served.ServeError.TheVariants.{Open, Fault as FaultOf, CacheFault, OutOfMemory}
 use Rattle.vx_file.specs.Covered.{covered_from}
-use Rattle.vx_file.specs.Opened.{OpensBy, OpenCause, IsTailAt}
 use Rattle.vx_file.specs.Plans.{Plan, world_of, covered_by}
+use Rattle.vx_file.specs.Prepared.{PreparedFrom}
 use Rattle.vx_file.specs.Ranges.{opening_range, opened}
 use Rattle.vx_file.specs.Scripts.{Fits, Leads, Touches, Stops, steps_of, replies_of, asked_for, bad_replies, cache_failure, cache_failures, put_in}
-use Rattle.vx_file.specs.Serving.{ServedFrom, CauseBy, OpeningRose, FaultRose, Plays, put_error, numbers_of, StopsOpening, StopsServing}
+use Rattle.vx_file.specs.Serving.{ServedFrom, Plays, numbers_of, StopsMetadata, StopsServing}
 use Rattle.vx_file.specs.Steps.{Answering}
 use Rattle.vx_source.proofs.BytesLemmas.{gained-slices}
 use Rattle.vx_file.proofs.Answering.{register-quiet, poll-quiet, drop-quiet}
@@ -43,7 +43,7 @@ use Rattle.vx_file.proofs.Covering.{covered-slices}
 
 -- ---- the cache
 
-nothing-failed : (before now : CacheState) → SameCache before now → Rises 0 before.faults now.faults
+pub nothing-failed : (before now : CacheState) → SameCache before now → Rises 0 before.faults now.faults
 nothing-failed before now same = let l = same.never_falls in record { later = l; risen = omega (arith, l) }
 
 failure-of : (reply : Reply) → (cache_failure reply ≡ 0) ⊎ (reply ≡ Failed Cache)
@@ -85,19 +85,19 @@ leads-failed w first now (m ∷ past) fits leads =
     (touch-failed w past m.deed m.reply leads.0 now fits.0 leads.2 leads.3))
 
 -- puts, and the numbers of their segments
-record Put (numbers : List ℕ) (before now : CacheState) : Type 0 where
-  driven : Segments
-  are : numbers_of driven ≡ numbers
-  gains : Gains driven before now
+pub record Put (numbers : List ℕ) (before now : CacheState) : Type 0 where
+  pub driven : Segments
+  pub are : numbers_of driven ≡ numbers
+  pub gains : Gains driven before now
 
-put-none : (before now : CacheState) → now ≡ before → Put [] before now
+pub put-none : (before now : CacheState) → now ≡ before → Put [] before now
 put-none before now e = record { driven = []; are = refl; gains = subst (Gains [] before) (sym e) (gains-none before) }
 
 no-puts : (log : Option Segments) → log ≡ option_map (λ l. l ++ []) log
 no-puts None = refl
 no-puts (Some l) = ap (λ m. Some m) (sym (append-nil l))
 
-put-got : (asked : Bool) (s : ℕ) (got : Got) (before now : CacheState) → HasGot asked s before now got → Put [] before now
+pub put-got : (asked : Bool) (s : ℕ) (got : Got) (before now : CacheState) → HasGot asked s before now got → Put [] before now
 put-got asked s got before now h = record {
   driven = [];
   are = refl;
@@ -121,7 +121,7 @@ touch-put w past (drops n) reply before now row t = quiet-put past reply before 
 touch-put w past drives reply before now row t = record { driven = t.puts; are = t.segments; gains = t.gains }
 touch-put w past stops reply before now row t = record { driven = t.puts; are = t.segments; gains = t.gains }
 
-leads-put : (w : World) (first now : CacheState) (history : List Moment) → Fits w history → Leads w first history now → Put (put_in history) first now
+pub leads-put : (w : World) (first now : CacheState) (history : List Moment) → Fits w history → Leads w first history now → Put (put_in history) first now
 leads-put w first now [] fits leads = put-none first now leads
 leads-put w first now (m ∷ past) fits leads =
     let before = leads-put w first leads.0 past fits.1 leads.1 in
@@ -132,121 +132,55 @@ leads-put w first now (m ∷ past) fits leads =
       gains = gains-then before.driven one.driven first leads.0 now before.gains one.gains;
     }
 
--- ---- the tail
+-- ---- the whole
 
-tail-start : (file : List ℕ) (start : Option ℕ) (tail : Option Tail) → IsTailAt file start tail → tail_start tail ≡ start
-tail-start file None None h = refl
-tail-start file None (Some tail) h = absurd h
-tail-start file (Some from) None h = absurd h
-tail-start file (Some from) (Some tail) h = ap (λ n. Some n) h.start
-
-tail-end : (file : List ℕ) (start : Option ℕ) (tail : Option Tail) → IsTailAt file start tail → IsEnd file tail
-tail-end file None None h t e = let no : ⊥ = cc in absurd no
-tail-end file None (Some tail) h t e = absurd h
-tail-end file (Some from) None h t e = absurd h
-tail-end file (Some from) (Some tail) h t e = let same : tail ≡ t = cc in subst (λ (x : Tail). x.bytes.bytes ≡ drop x.start file) same (h.bytes ∙ ap (λ n. drop n file) (sym h.start))
-
-from-slices : (file : List ℕ) (start : Option ℕ) (table : List SegmentSpec) (before now : CacheState) → Gains (covered_from file start table) before now → TellsSlices file table before → TellsSlices file table now
-from-slices file None table before now gains t = gained-slices file table [] before now gains (λ q b h spec found. absurd h) t
-from-slices file (Some from) table before now gains t = covered-slices file from table before now gains t
-
--- ---- the calls of `serve`, one after another
-
-pub same-settings : (a b : ReaderState) → SameReader a b → settings_of b ≡ settings_of a
-same-settings a b h =
-    ap (λ d. let s : ReaderSettings = record { distance = d; max_read_size = b.max_read_size; concurrency = b.concurrency } in s) h.distance
-    ∙ ap (λ m. let s : ReaderSettings = record { distance = a.distance; max_read_size = m; concurrency = b.concurrency } in s) h.max_read_size
-    ∙ ap (λ c. let s : ReaderSettings = record { distance = a.distance; max_read_size = a.max_read_size; concurrency = c } in s) h.concurrency
-
-ranges_opened : (ranges : List (ℕ × ℕ)) → map opening_range ranges ≡ ranges_of (opened ranges)
-ranges_opened [] = refl
-ranges_opened (r ∷ rs) = ap (λ xs. opening_range r ∷ xs) (ranges_opened rs)
-
--- opening was refused
-pub opening-refused : (plan : Plan) (file : List ℕ) (script : List Step) (start mid : ReaderState) (cache : CacheState) (e : ServeError) → OpenCause plan file start mid (Err e) → CauseBy plan file script start mid cache cache (Err e)
-opening-refused plan file script start mid cache (Open e) h = h
-opening-refused plan file script start mid cache (FaultOf fault) h = h
-opening-refused plan file script start mid cache CacheFault h = absurd h
-opening-refused plan file script start mid cache OutOfMemory h = inl h
-
-pub opening-rose : (e : ServeError) (before now : ReaderState) (cache : CacheState) → (let answer : Result Opened ServeError = Err e in OpeningRose before now answer)
-    → (let answer : Result Served ServeError = Err e in FaultRose before now cache cache answer)
-opening-rose (Open e) before now cache h = tt
-opening-rose (FaultOf fault) before now cache h = h
-opening-rose CacheFault before now cache h = absurd h
-opening-rose OutOfMemory before now cache h = tt
-
--- a file was opened by a plan, and a session was begun for its segments
-module _ (plan : Plan) (file : List ℕ) (start mid : ReaderState) (o : Opened) (h : OpensBy plan file start mid o) (segments : List SegmentSpec) (same : segments ≡ segment_table o.footer.content) where
-  -- memory ran out behind the opening ranges
-  pub opening-stops : StopsOpening plan start mid
-  opening-stops = record {
-    gained = opened plan.ranges;
-    rest = [];
-    ranges = ranges_opened plan.ranges ∙ sym (append-nil (ranges_of (opened plan.ranges)));
-    grew = h.asked;
-  }
-
-  -- a put of a covered segment was refused
-  pub put-refused : (script : List Step) (cache cache_now : CacheState) (e : CacheError) → CauseBy plan file script start mid cache cache_now (Err (put_error e))
-  put-refused script cache cache_now cache_error.Failed = record { grammar = ap is_ok h.footer; asked = h.asked }
-  put-refused script cache cache_now cache_error.OutOfMemory = inl opening-stops
-
-  -- the covered segments were put into the cache
-  pub filled : (before now : CacheState) → ((file : List ℕ) → IsEnd file o.tail → Gains (covered_from file (tail_start o.tail) segments) before now) → Gains (covered_by plan file o.footer.content) before now
-  filled before now gains =
-      subst (λ s. Gains (covered_from file s (segment_table o.footer.content)) before now) (tail-start file plan.start o.tail h.tail)
-      (subst (λ t. Gains (covered_from file (tail_start o.tail) t) before now) same (gains file (tail-end file plan.start o.tail h.tail)))
-
-  module _ (settings : ReaderSettings) (k : Kept) where
-    pub begins : Stands (world segments settings.distance settings.max_read_size settings.concurrency (tail_start o.tail)) [] k → Stands (world_of plan o.footer.content settings) [] k
-    begins stands = subst (λ s. Stands (world (segment_table o.footer.content) settings.distance settings.max_read_size settings.concurrency s) [] k) (tail-start file plan.start o.tail h.tail)
-        (subst (λ t. Stands (world t settings.distance settings.max_read_size settings.concurrency (tail_start o.tail)) [] k) same stands)
-
-    pub begins-bytes : ((file : List ℕ) → IsEnd file o.tail → HasBytes file k) → HasBytes file k
-    begins-bytes bytes = bytes file (tail-end file plan.start o.tail h.tail)
-
--- the covered segments, and then the steps of a script
-pub plays-is : (w : World) (file : List ℕ) (start : Option ℕ) (script : List Step) (before now : ReaderState) (first : Kept) (cache filled cache_now : CacheState) (replies : List Reply) (k : Kept)
-    → before.bytes ≡ Some file → HasBytes file first → SameCache cache filled → Gains (covered_from file start w.table) cache filled → Answering w script [] before now first filled cache_now replies k
-    → Plays w file (covered_from file start w.table) script cache cache_now replies
-plays-is w file start script before now first cache filled cache_now replies k told bytes same fills h =
-    let put = leads-put w filled cache_now h.history h.fits h.leads in
+-- the steps of a script
+pub plays-is : (w : World) (file : List ℕ) (script : List Step) (before now : ReaderState) (first : Kept) (cache cache_now : CacheState) (replies : List Reply) (k : Kept)
+    → before.bytes ≡ Some file → HasBytes file first → Answering w script [] before now first cache cache_now replies k → Plays w file script cache cache_now replies
+plays-is w file script before now first cache cache_now replies k told bytes h =
     let one = h.one_each in
     record {
       history = h.history;
       answers = record { steps_are = sym (append-nil (steps_of h.history)) ∙ h.split; replies_are = h.replies_are; one_each = omega (arith, one); fits = h.fits };
-      filled = filled;
-      fills = fills;
       leads = h.leads;
-      true_of = λ t. (h.true_of file told bytes (from-slices file start w.table cache filled fills t)).0;
-      puts = record { driven = put.driven; numbers = put.are; gains = gains-then (covered_from file start w.table) put.driven cache filled cache_now fills put.gains };
-      failed = subst (λ n. Rises n cache.faults cache_now.faults) (let none : 0 + cache_failures replies ≡ cache_failures replies = omega arith in none)
-          (rises-then 0 (cache_failures replies) cache.faults filled.faults cache_now.faults (nothing-failed cache filled same)
-          (subst (λ rs. Rises (cache_failures rs) filled.faults cache_now.faults) h.replies_are (leads-failed w filled cache_now h.history h.fits h.leads)));
+      true_of = λ t. (h.true_of file told bytes t).0;
+      failed = subst (λ rs. Rises (cache_failures rs) cache.faults cache_now.faults) h.replies_are (leads-failed w cache cache_now h.history h.fits h.leads);
     }
 
-pub served-is : (plan : Plan) (file : List ℕ) (script : List Step) (start mid now : ReaderState) (cache cache_now : CacheState) (o : Opened) (replies : List Reply)
-    → settings_of mid ≡ settings_of start → OpensBy plan file start mid o
-    → Plays (world_of plan o.footer.content (settings_of mid)) file (covered_by plan file o.footer.content) script cache cache_now replies
-    → Grew (asked_for replies) mid.log now.log → Rises (bad_replies replies) mid.faults now.faults
-    → ServedFrom plan file script start now cache cache_now (record { footer = o.footer; opening = o.ranges; replies = replies })
-served-is plan file script start mid now cache cache_now o replies settings h plays grew rises = record {
-  footer = h.footer;
-  opening = h.ranges;
-  plays = subst (λ s. Plays (world_of plan o.footer.content s) file (covered_by plan file o.footer.content) script cache cache_now replies) settings plays;
-  asked = subst (λ rs. Grew (opened rs ++ asked_for replies) start.log now.log) (sym h.ranges)
-      (grew-then (opened plan.ranges) (asked_for replies) start.log mid.log now.log h.asked grew);
-  bad = subst (λ n. Rises n start.faults now.faults) (let same : 0 + bad_replies replies ≡ bad_replies replies = omega arith in same) (rises-then 0 (bad_replies replies) start.faults mid.faults now.faults h.rises rises);
-}
+module _ (plan : Plan) (include : Bool) (file : List ℕ) (script : List Step) (start mid now : ReaderState) (cache prepared cache_now : CacheState) (p : Prepared) (h : PreparedFrom plan include file start mid cache prepared p) where
+  pub served-is : (replies : List Reply) → (plays : Plays (world_of plan p.footer.content (settings_of start)) file script prepared cache_now replies)
+      → Grew (asked_for replies) mid.log now.log → Rises (bad_replies replies) mid.faults now.faults
+      → ServedFrom plan include file script start now cache cache_now (record { footer = p.footer; metadata = p.metadata; opening = p.opening; replies = replies })
+  served-is replies plays grew rises =
+      let put = leads-put (world_of plan p.footer.content (settings_of start)) prepared cache_now plays.history plays.answers.fits plays.leads in
+      record {
+        serves = record {
+          prepared = prepared;
+          prepares = h.prepares;
+          plays = plays;
+          true_of = λ t. plays.true_of (h.slices t);
+          puts = record {
+            driven = h.driven ++ put.driven;
+            numbers = ids-append h.driven put.driven ∙ ap (λ l. l ++ numbers_of put.driven) h.numbers ∙ ap (λ l. h.prepares.numbers ++ l) put.are;
+            gains = subst (λ puts. Gains puts cache cache_now) (append_assoc (covered_by plan file p.footer.content) h.driven put.driven)
+                (gains-then (covered_by plan file p.footer.content ++ h.driven) put.driven cache prepared cache_now h.gains put.gains);
+          };
+        };
+        asked = grew-then (opened plan.ranges ++ asked_by h.prepares.spans) (asked_for replies) start.log mid.log now.log h.asked grew;
+        bad = rises-then (bad_spans h.prepares.spans) (bad_replies replies) start.faults mid.faults now.faults h.bad rises;
+      }
 
--- memory ran out while the script was answered
-pub serving-stops : (plan : Plan) (file : List ℕ) (script : List Step) (start mid now : ReaderState) (o : Opened) → settings_of mid ≡ settings_of start → OpensBy plan file start mid o
-    → Stops (world_of plan o.footer.content (settings_of mid)) script mid.log now.log → StopsServing plan script start now
-serving-stops plan file script start mid now o settings h stop = record {
-  footer = o.footer.content;
-  grammar = h.footer;
-  between = mid.log;
-  opened_all = h.asked;
-  stops = subst (λ s. Stops (world_of plan o.footer.content s) script mid.log now.log) settings stop;
-}
+  -- memory ran out while the script was answered
+  pub serving-stops : Stops (world_of plan p.footer.content (settings_of start)) script mid.log now.log → StopsServing plan script start now
+  serving-stops stop = record {
+    footer = p.footer.content;
+    grammar = h.prepares.footer_is;
+    spans = h.prepares.spans;
+    between = mid.log;
+    prepared = h.asked;
+    stops = stop;
+  }
+
+  -- memory ran out before the script was answered
+  pub session-stops : StopsMetadata plan start mid prepared
+  session-stops = h.ready

@@ -26,6 +26,8 @@ pub record PreparedFrom (plan : Plan) (include : Bool) (file : List ℕ) (before
   pub numbers : numbers_of driven ≡ prepares.numbers
   pub gains : Gains (covered_by plan file p.footer.content ++ driven) cache cache_now
   pub slices : TellsSlices file (segment_table p.footer.content) cache → TellsSlices file (segment_table p.footer.content) cache_now
+  -- what stands where memory runs out right behind
+  pub ready : StopsMetadata plan before now cache_now
 
 abbrev pub PrepareCause : Plan → Bool → List ℕ → ReaderState → ReaderState → CacheState → CacheState → Result Prepared ServeError → Type 0
 PrepareCause plan include file before now cache cache_now (Ok p) = PreparedFrom plan include file before now cache cache_now p

@@ -1,5 +1,5 @@
 -- What serving a script from a file gives.
-use Rattle.std.specs.Prelude.{◌≡◌, ℕ, ◌+◌, ◌<◌, Bool, true, false, List, [], ◌∷◌, ◌++◌, map, Option, Some, None, Result, Ok, Err, IsOk, ◌⊎◌}
+use Rattle.std.specs.Prelude.{◌≡◌, ℕ, ◌+◌, ◌<◌, Bool, true, false, List, [], ◌∷◌, ◌++◌, map, Option, Some, None, Result, Ok, Err, IsOk, IfSome, ◌⊎◌}
 use Rattle.vx_base.specs.Asking.{Log, ranges_of}
 use Rattle.vx_base.specs.Buffer.{Buffer}
 use Rattle.vx_base.specs.Caches.{Segments, CacheState}
@@ -32,7 +32,7 @@ use Rattle.vx_file.specs.declared.served.Served.{Served}
 use Rattle.vx_file.specs.declared.served.ServeError.{ServeError}
 use Rattle.vx_file.specs.declared.served.ServeError.TheVariants as errors
 use Rattle.vx_file.specs.Hints.{Hints}
-use Rattle.vx_file.specs.Loading.{Loads, LoadFails, StopsLoading, put_numbers, range_of}
+use Rattle.vx_file.specs.Loading.{Loads, LoadFails, StopsLoading, put_numbers, range_of, value_in}
 use Rattle.vx_file.specs.Plans.{Plan, plan_of, world_of, covered_by}
 use Rattle.vx_file.specs.Ranges.{opening_range, opened}
 use Rattle.vx_file.specs.Scripts.{Answers, AreTrue, Leads, Stops, asked_for, bad_replies, cache_failures, put_in}
@@ -72,6 +72,10 @@ LoadsIf false w file footer cache cache_now metadata spans numbers = (metadata �
 LoadsIf true w file footer cache cache_now None spans numbers = ⊥
 LoadsIf true w file footer cache cache_now (Some metadata) spans numbers = LoadsMetadata w file footer cache cache_now metadata spans numbers
 
+-- the values of the metadata, if they are there, are the bytes of their segments, in the order of the file
+abbrev pub HaveValues : List ℕ → FooterContent → Option (List MetadataValue) → Type 0
+HaveValues file footer metadata = IfSome metadata (λ values. values ≡ map (value_in file) footer.metadata)
+
 -- A file was opened by a plan, the covered segments were put into the cache, and the metadata was loaded, where that is asked
 -- for.
 pub record Prepares (plan : Plan) (include : Bool) (file : List ℕ) (settings : ReaderSettings) (cache cache_now : CacheState) (footer : FooterContent) (opening : List (ℕ × ℕ)) (metadata : Option (List MetadataValue)) : Type 0 where
@@ -82,6 +86,7 @@ pub record Prepares (plan : Plan) (include : Bool) (file : List ℕ) (settings :
   pub fills : Gains (covered_by plan file footer) cache filled
   pub numbers : List ℕ
   pub loads : LoadsIf include (world_of plan footer settings) file footer filled cache_now metadata spans numbers
+  pub true_of : TellsSlices file (segment_table footer) cache → HaveValues file footer metadata
 
 -- A script was served from a file that was opened by a plan: the footer is the plan's, the metadata was loaded before, where that
 -- is asked for, and a history answers the script, one reply for each step.
