@@ -1,9 +1,9 @@
 -- A file is prepared: it is opened, the covered segments are put into the cache, and the metadata is loaded.
-use Rattle.std.proofs.Common.{◌≡◌, ℕ, ◌+◌, Bool, true, false, List, [], ◌∷◌, ◌++◌, map, drop, Option, Some, None, Result, Ok, Err, refl, sym, ap, subst, ◌∙◌, arith, ◌⊎◌, inl, inr}
+use Rattle.std.proofs.Common.{◌≡◌, ℕ, ◌+◌, Bool, List, [], ◌∷◌, ◌++◌, map, Option, Some, None, Result, Ok, Err, refl, sym, ap, subst, ◌∙◌, arith, inl, inr}
 use Rattle.std.specs.Result.{is_ok}
 use Rattle.std.proofs.lemmas.List.{append-nil}
 use Rattle.vx_base.specs.Asking.{ranges_of}
-use Rattle.vx_base.specs.Caches.{Segments, CacheState}
+use Rattle.vx_base.specs.Caches.{CacheState}
 use Rattle.vx_base.specs.Counts.{Rises}
 use Rattle.vx_base.specs.Readers.{ReaderState, ReaderSettings, SameReader, settings_of}
 use Rattle.vx_base.specs.declared.segment_cache.CacheError.{CacheError}
@@ -17,30 +17,28 @@ use Rattle.vx_source.specs.Fetching.{Registering}
 use Rattle.vx_source.specs.Fits.{World, asks}
 use Rattle.vx_source.specs.History.{Moment}
 use Rattle.vx_source.specs.Kept.{Kept, tail_start}
-use Rattle.vx_source.specs.Puts.{Gains, put_by}
+use Rattle.vx_source.specs.Puts.{Gains}
 use Rattle.vx_source.specs.Stands.{Stands}
 use Rattle.vx_source.specs.declared.fetching.Fetch.{Fetch}
 use Rattle.vx_source.specs.declared.fetching.Fetched.{Fetched}
-use Rattle.vx_source.specs.declared.span.Span.{Span}
 use Rattle.vx_source.specs.declared.tail.Tail.{Tail}
 use Rattle.vx_source.proofs.BytesLemmas.{gained-slices}
 use Rattle.vx_source.proofs.DriveLemmas.{grew-then, rises-then}
 use Rattle.vx_source.proofs.PutLemmas.{gains-then, ids-append}
 use Rattle.vx_file.specs.declared.metadata.Loaded.{Loaded}
-use Rattle.vx_file.specs.declared.metadata.MetadataValue.{MetadataValue}
 use Rattle.vx_file.specs.declared.opened.Opened.{Opened}
 use Rattle.vx_file.specs.declared.prepared.Prepared.{Prepared}
 use Rattle.vx_file.specs.declared.served.ServeError.{ServeError}
 use Rattle.vx_file.specs.declared.served.ServeError.TheVariants.{Open, Fault as FaultOf, CacheFault, OutOfMemory}
 use Rattle.vx_file.specs.Covered.{covered_from}
-use Rattle.vx_file.specs.Loading.{Drives, Loads, AsksSpans, LoadIfCause, LoadCause, LoadsNothing, StopsLoading, put_numbers, range_of, spans_of, values_in, value_in}
-use Rattle.vx_file.specs.Opened.{OpensBy, OpenCause, IsTailAt}
+use Rattle.vx_file.specs.Loading.{Drives, AsksSpans, LoadIfCause, LoadCause, StopsLoading, put_numbers, range_of, spans_of, values_in}
+use Rattle.vx_file.specs.Opened.{OpensBy, OpenCause}
 use Rattle.vx_file.specs.Plans.{Plan, table_world, world_of, covered_by}
 use Rattle.vx_file.specs.Prepared.{PreparedFrom, PrepareCause}
 use Rattle.vx_file.specs.Ranges.{opening_range, opened}
-use Rattle.vx_file.specs.Serving.{OpeningRose, FaultRose, LoadsIf, HaveValues, Prepares, put_error, numbers_of, StopsOpening, StopsMetadata}
+use Rattle.vx_file.specs.Serving.{OpeningRose, FaultRose, LoadsIf, put_error, numbers_of, StopsOpening, StopsMetadata}
 use Rattle.vx_file.proofs.Covering.{covered-slices}
-use Rattle.vx_file.proofs.Serves.{Put, put-none, put-got}
+use Rattle.vx_file.proofs.Serves.{Put, put-none, put-got, tail-start, tail-end}
 
 -- ---- a session over the tail of a file
 
@@ -53,18 +51,6 @@ pub begins-bytes : (own tail : Option Tail) (k : Kept) (file : List ℕ) → own
 begins-bytes own tail k file is bytes end = subst (λ t. IsEnd file t → HasBytes file k) is (bytes file) end
 
 -- ---- the tail
-
-tail-start : (file : List ℕ) (start : Option ℕ) (tail : Option Tail) → IsTailAt file start tail → tail_start tail ≡ start
-tail-start file None None h = refl
-tail-start file None (Some tail) h = absurd h
-tail-start file (Some from) None h = absurd h
-tail-start file (Some from) (Some tail) h = ap (λ n. Some n) h.start
-
-tail-end : (file : List ℕ) (start : Option ℕ) (tail : Option Tail) → IsTailAt file start tail → IsEnd file tail
-tail-end file None None h t e = let no : ⊥ = cc in absurd no
-tail-end file None (Some tail) h t e = absurd h
-tail-end file (Some from) None h t e = absurd h
-tail-end file (Some from) (Some tail) h t e = let same : tail ≡ t = cc in subst (λ (x : Tail). x.bytes.bytes ≡ drop x.start file) same (h.bytes ∙ ap (λ n. drop n file) (sym h.start))
 
 from-slices : (file : List ℕ) (start : Option ℕ) (table : List SegmentSpec) (before now : CacheState) → Gains (covered_from file start table) before now → TellsSlices file table before → TellsSlices file table now
 from-slices file None table before now gains t = gained-slices file table [] before now gains (λ q b h spec found. absurd h) t

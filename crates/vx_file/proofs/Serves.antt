@@ -1,24 +1,20 @@
 -- A script that was answered over an opened file was served from it.
-use Rattle.std.proofs.Common.{◌≡◌, ℕ, ◌+◌, Bool, List, [], ◌∷◌, ◌++◌, map, drop, Option, Some, None, Result, Err, refl, sym, ap, subst, ◌∙◌, arith, append_assoc, ◌⊎◌, inl, inr}
+use Rattle.std.proofs.Common.{◌≡◌, ℕ, ◌+◌, Bool, List, [], ◌∷◌, ◌++◌, drop, Option, Some, None, Result, Err, refl, sym, ap, subst, ◌∙◌, arith, append_assoc, ◌⊎◌, inl, inr}
 use Rattle.std.specs.Option.{option_map}
-use Rattle.std.specs.Result.{is_ok}
 use Rattle.std.proofs.lemmas.List.{append-nil}
-use Rattle.vx_base.specs.Asking.{ranges_of}
 use Rattle.vx_base.specs.Caches.{Segments, CacheState, SameCache}
 use Rattle.vx_base.specs.Counts.{Rises}
-use Rattle.vx_base.specs.Readers.{ReaderState, ReaderSettings, SameReader, settings_of}
-use Rattle.vx_base.specs.declared.segment_cache.CacheError.{CacheError}
-use Rattle.vx_base.specs.declared.segment_cache.CacheError.TheVariants as cache_error
+use Rattle.vx_base.specs.Readers.{ReaderState, settings_of}
 use Rattle.vx_base.specs.declared.segment.SegmentSpec.{SegmentSpec}
 use Rattle.vx_footer.specs.Footers.{segment_table}
 use Rattle.vx_source.specs.Asks.{Grew, asked_by, bad_spans}
-use Rattle.vx_source.specs.Bytes.{HasBytes, TellsSlices, IsEnd}
+use Rattle.vx_source.specs.Bytes.{HasBytes, IsEnd}
 use Rattle.vx_source.specs.Caching.{HasGot}
 use Rattle.vx_source.specs.Fits.{World, IsRow, asks}
 use Rattle.vx_source.specs.History.{Got, Deed, registers, polls, drops, drives, stops, Moment, spans_in}
 use Rattle.vx_source.specs.Kept.{Kept, tail_start}
 use Rattle.vx_source.specs.Puts.{Gains, put_by}
-use Rattle.vx_source.specs.Stands.{Stands, world}
+use Rattle.vx_source.specs.Stands.{Stands}
 use Rattle.vx_source.specs.declared.reply.FailCause.TheVariants.{Fault, Cache}
 use Rattle.vx_source.specs.declared.reply.Reply.{Reply}
 use Rattle.vx_source.specs.declared.reply.Reply.TheVariants.{Registered, MissingSegment, Ready, Pending, Failed, Dropped, NotLive, Driven}
@@ -30,16 +26,14 @@ use Rattle.vx_file.specs.declared.step.Step.{Step}
 use Rattle.vx_file.specs.declared.served.Served.{Served}
 use Rattle.vx_file.specs.declared.served.ServeError.{ServeError}
 use Rattle.vx_file.specs.declared.served.ServeError.TheVariants.{Open, Fault as FaultOf, CacheFault, OutOfMemory}
-use Rattle.vx_file.specs.Covered.{covered_from}
-use Rattle.vx_file.specs.Plans.{Plan, world_of, covered_by}
-use Rattle.vx_file.specs.Prepared.{PreparedFrom}
-use Rattle.vx_file.specs.Ranges.{opening_range, opened}
+use Rattle.vx_file.specs.Opened.{IsTailAt}
+use Rattle.vx_file.specs.Plans.{Plan, table_world, world_of, covered_by}
+use Rattle.vx_file.specs.Prepared.{PreparedFrom, PrepareCause}
+use Rattle.vx_file.specs.Ranges.{opened}
 use Rattle.vx_file.specs.Scripts.{Fits, Leads, Touches, Stops, steps_of, replies_of, asked_for, bad_replies, cache_failure, cache_failures, put_in}
-use Rattle.vx_file.specs.Serving.{ServedFrom, Plays, numbers_of, StopsMetadata, StopsServing}
+use Rattle.vx_file.specs.Serving.{ServedFrom, CauseBy, FaultRose, Plays, numbers_of, StopsServing}
 use Rattle.vx_file.specs.Steps.{Answering}
-use Rattle.vx_source.proofs.BytesLemmas.{gained-slices}
 use Rattle.vx_file.proofs.Answering.{register-quiet, poll-quiet, drop-quiet}
-use Rattle.vx_file.proofs.Covering.{covered-slices}
 
 -- ---- the cache
 
@@ -132,7 +126,21 @@ leads-put w first now (m ∷ past) fits leads =
       gains = gains-then before.driven one.driven first leads.0 now before.gains one.gains;
     }
 
--- ---- the whole
+-- ---- the tail
+
+pub tail-start : (file : List ℕ) (start : Option ℕ) (tail : Option Tail) → IsTailAt file start tail → tail_start tail ≡ start
+tail-start file None None h = refl
+tail-start file None (Some tail) h = absurd h
+tail-start file (Some from) None h = absurd h
+tail-start file (Some from) (Some tail) h = ap (λ n. Some n) h.start
+
+pub tail-end : (file : List ℕ) (start : Option ℕ) (tail : Option Tail) → IsTailAt file start tail → IsEnd file tail
+tail-end file None None h t e = let no : ⊥ = cc in absurd no
+tail-end file None (Some tail) h t e = absurd h
+tail-end file (Some from) None h t e = absurd h
+tail-end file (Some from) (Some tail) h t e = let same : tail ≡ t = cc in subst (λ (x : Tail). x.bytes.bytes ≡ drop x.start file) same (h.bytes ∙ ap (λ n. drop n file) (sym h.start))
+
+-- ---- the script
 
 -- the steps of a script
 pub plays-is : (w : World) (file : List ℕ) (script : List Step) (before now : ReaderState) (first : Kept) (cache cache_now : CacheState) (replies : List Reply) (k : Kept)
@@ -181,6 +189,30 @@ module _ (plan : Plan) (include : Bool) (file : List ℕ) (script : List Step) (
     stops = stop;
   }
 
-  -- memory ran out before the script was answered
-  pub session-stops : StopsMetadata plan start mid prepared
-  session-stops = h.ready
+-- a file was not prepared
+pub prepare-refused : (plan : Plan) (include : Bool) (file : List ℕ) (script : List Step) (start mid : ReaderState) (cache cache_now : CacheState) (e : ServeError) → PrepareCause plan include file start mid cache cache_now (Err e)
+    → CauseBy plan include file script start mid cache cache_now (Err e)
+prepare-refused plan include file script start mid cache cache_now (Open e) h = h
+prepare-refused plan include file script start mid cache cache_now (FaultOf fault) h = h
+prepare-refused plan include file script start mid cache cache_now CacheFault h = h
+prepare-refused plan include file script start mid cache cache_now OutOfMemory h = elim h [ inl opening ↦ inl opening | inr metadata ↦ inr (inl metadata) ]
+
+pub prepare-rose : (e : ServeError) (before now : ReaderState) (cache cache_now : CacheState) → (let answer : Result Prepared ServeError = Err e in FaultRose before now cache cache_now answer)
+    → (let answer : Result Served ServeError = Err e in FaultRose before now cache cache_now answer)
+prepare-rose (Open e) before now cache cache_now h = tt
+prepare-rose (FaultOf fault) before now cache cache_now h = h
+prepare-rose CacheFault before now cache cache_now h = h
+prepare-rose OutOfMemory before now cache cache_now h = tt
+
+-- the session of the script, over the tail that was read
+module _ (plan : Plan) (file : List ℕ) (p : Prepared) where
+  pub own-world : (start mid : ReaderState) → IsTailAt file plan.start p.tail → settings_of mid ≡ settings_of start → (segments : List SegmentSpec) → segments ≡ segment_table p.footer.content → (k : Kept)
+      → Stands (table_world segments (settings_of mid) (tail_start p.tail)) [] k → Stands (world_of plan p.footer.content (settings_of start)) [] k
+  own-world start mid tail settings segments same k stands =
+      subst (λ s. Stands (table_world (segment_table p.footer.content) s plan.start) [] k) settings
+      (subst (λ t. Stands (table_world (segment_table p.footer.content) (settings_of mid) t) [] k) (tail-start file plan.start p.tail tail)
+      (subst (λ ts. Stands (table_world ts (settings_of mid) (tail_start p.tail)) [] k) same stands))
+
+  pub own-bytes : IsTailAt file plan.start p.tail → (k : Kept) → ((file : List ℕ) → IsEnd file p.tail → HasBytes file k) → HasBytes file k
+  own-bytes tail k bytes = bytes file (tail-end file plan.start p.tail tail)
+

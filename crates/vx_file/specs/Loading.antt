@@ -1,5 +1,5 @@
 -- The values of a file's metadata, which are read before a script is answered.
-use Rattle.std.specs.Prelude.{◌≡◌, ℕ, zero, suc, ◌+◌, ◌-◌, Bool, true, false, List, [], ◌∷◌, ◌++◌, length, map, Option, Some, None, Result, Ok, Err, ◌⊎◌}
+use Rattle.std.specs.Prelude.{◌≡◌, ℕ, zero, suc, ◌+◌, ◌-◌, Bool, true, false, List, [], ◌∷◌, length, map, Option, Some, None, Result, Ok, Err, ◌⊎◌}
 use Rattle.vx_base.specs.Buffer.{Buffer}
 use Rattle.vx_base.specs.Caches.{CacheState}
 use Rattle.vx_base.specs.Counts.{Rises}

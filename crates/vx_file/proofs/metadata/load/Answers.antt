@@ -1,5 +1,4 @@
 use Rattle.std.proofs.Common.{◌≡◌, ◌∙◌, [], rules, Err}
-use Rattle.vx_base.specs.Readers.{ReaderState}
 use Rattle.vx_file.specs.declared.served.ServeError.TheVariants.{OutOfMemory}
 use Rattle.vx_file.proofs.Loadings.{loads-are, load-fails, load-rose, load-stops, load-stops-behind}
 use Rattle.vx_file.proofs.metadata.load.Goals as goal

@@ -1,6 +1,5 @@
-use Rattle.std.proofs.Common.{◌≡◌, ◌-◌, ◌≤◌, ◌∙◌, length, rules, ap, subst, sym, arith}
-use Rattle.vx_footer.specs.Footers.{segment_table}
-use Rattle.vx_file.specs.Loading.{numbers_from, metadata_ids}
+use Rattle.std.proofs.Common.{◌-◌, ◌∙◌, length, ap, arith}
+use Rattle.vx_file.specs.Loading.{numbers_from}
 use Rattle.vx_file.proofs.Loadings.{ids-are, ids-length, table-length}
 use Rattle.vx_file.proofs.metadata.metadata_ids.Goals as goal
 

@@ -1,4 +1,4 @@
-use Rattle.std.proofs.Common.{◌<◌, arith, rules, ap, ◌++◌, ◌∙◌, subst, sym, List, ◌≡◌, ◌∷◌, [], ◌-◌, ◌+◌}
+use Rattle.std.proofs.Common.{◌<◌, arith, rules, ◌++◌, subst, sym, List, ◌≡◌, ◌∷◌, [], ◌-◌, ◌+◌}
 use Rattle.vx_base.specs.declared.segment.SegmentId.{SegmentId}
 use Rattle.vx_file.specs.Loading.{numbers_from}
 use Rattle.vx_file.proofs.Loadings.{number-more}

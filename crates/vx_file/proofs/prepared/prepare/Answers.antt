@@ -1,5 +1,4 @@
-use Rattle.std.proofs.Common.{◌≡◌, ◌∙◌, sym, subst, ap, rules, inr, inl, Err, Ok, List}
-use Rattle.vx_base.specs.declared.segment.SegmentSpec.{SegmentSpec}
+use Rattle.std.proofs.Common.{◌≡◌, ◌∙◌, rules, inr, Err}
 use Rattle.vx_file.specs.declared.served.ServeError.TheVariants.{OutOfMemory}
 use Rattle.vx_file.specs.Plans.{plan_of}
 use Rattle.vx_file.specs.Serving.{put_error}
