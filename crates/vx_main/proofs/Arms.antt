@@ -12,6 +12,7 @@ use Rattle.vx_footer.specs.FieldSizes.{SizeList, SizesGiven, missing}
 use Rattle.vx_footer.specs.Footers.{FooterContent}
 use Rattle.vx_footer.specs.Opening.{vx_grammar}
 use Rattle.vx_source.specs.declared.reply.Reply.{Reply}
+use Rattle.vx_source.specs.declared.span.Span.{Span}
 use Rattle.vx_file.specs.declared.step.Step.{Step}
 use Rattle.vx_file.specs.declared.served.Served.{Served}
 use Rattle.vx_write.specs.Column.{written}
@@ -27,7 +28,7 @@ use Rattle.vx_main.specs.declared.input.TheConstants.{MOST_INPUT}
 use Rattle.vx_main.specs.Command.{reads_script, serve_hints, sizes_hints}
 use Rattle.vx_file.specs.Hints.{Hints, IsSizeOf}
 use Rattle.vx_file.specs.Ranges.{tail_ranges, opened}
-use Rattle.vx_file.specs.Scripts.{asked_for}
+use Rattle.vx_file.specs.Serving.{asked}
 use Rattle.vx_main.specs.Demo.{Demonstrates, DemoCause}
 use Rattle.vx_main.specs.Failures.{LeavesFiles}
 use Rattle.vx_main.specs.Input.{ReadsScript, ScriptCause, BadLine, BadLength}
@@ -145,7 +146,7 @@ serve-answers s steps source source_now files files_now served script h = record
   each = λ out. record {
     is = record { served = served; is = refl; steps = steps; script = script; asked = h.0; back = h.1; serves = h.2 };
     deserved = λ told. read-status source source_now steps source.rest (file_status (serve_hints s) (files.file s.name)) refl told.0 script
-        ∙ served-status (serve_hints s) (files.file s.name) served told.1 told.2 (λ file e sized. (h.2 file e sized).footer);
+        ∙ served-status (serve_hints s) (files.file s.name) served told.1 told.2 (λ file e sized. (h.2 file e sized).serves.prepares.footer_is);
   };
 }
 
@@ -205,10 +206,11 @@ no-replies : (replies : List Reply) → length replies ≡ 0 → replies ≡ []
 no-replies [] e = refl
 no-replies (reply ∷ replies) e = absurd cc
 
--- what opening without a step asked
-asked-nothing-more : (name : List ℕ) (ranges : List (ℕ × ℕ)) (replies : List Reply) (before now : OpenerState) → length replies ≡ 0 → GivesBack name before now (opened ranges ++ asked_for replies) → GivesBack name before now (opened ranges)
-asked-nothing-more name ranges replies before now none h =
-    subst (GivesBack name before now) (ap (λ rs. opened ranges ++ asked_for rs) (no-replies replies none) ∙ append-nil (opened ranges)) h
+-- what opening without a step and without the metadata asked
+asked-nothing-more : (name : List ℕ) (ranges : List (ℕ × ℕ)) (spans : List Span) (replies : List Reply) (before now : OpenerState) → spans ≡ [] → length replies ≡ 0 → GivesBack name before now (asked ranges spans replies)
+    → GivesBack name before now (opened ranges)
+asked-nothing-more name ranges spans replies before now no_spans none h =
+    subst (GivesBack name before now) (append-nil (opened ranges) ∙ append-nil (opened ranges)) (subst (λ ss. GivesBack name before now (asked ranges ss [])) no_spans (subst (λ rs. GivesBack name before now (asked ranges spans rs)) (no-replies replies none) h))
 
 -- the file was not opened
 pub sizes-fails : (s : sizes.Sizes) (source : SourceState) (files files_now : OpenerState) (failure : Failure) → opens s files files_now (Err failure) → Gathers (commands.Sizes s) source source files files_now (Err failure)
@@ -247,7 +249,7 @@ sizes-fails s source files files_now failures.OutOfMemory h = record { each = λ
 -- the file was opened
 module _ (s : sizes.Sizes) (source : SourceState) (files files_now : OpenerState) (served : Served) (h : opens s files files_now (Ok served)) where
   grammar : (file : List ℕ) → files.file s.name ≡ Some file → vx_grammar file s.dtype ≡ Ok served.footer.content
-  grammar file e = (h.2 file e tt).footer
+  grammar file e = (h.2 file e tt).serves.prepares.footer_is
 
   pub sizes-answers : (sizes : SizeList) → SizesGiven served.footer.content.layout served.footer.content.segments (Ok sizes) → Gathers (commands.Sizes s) source source files files_now (Ok (answers.Sizes sizes))
   sizes-answers sizes given = record {
@@ -263,8 +265,7 @@ module _ (s : sizes.Sizes) (source : SourceState) (files files_now : OpenerState
           grammar = grammar file e;
           there = given.0;
           sizes_are = given.1;
-          back = asked-nothing-more s.name (tail_ranges (sizes_hints s) file) served.replies files files_now serves.plays.answers.one_each
-              (subst (λ rs. GivesBack s.name files files_now (opened rs ++ asked_for served.replies)) serves.opening serves.back);
+          back = asked-nothing-more s.name (tail_ranges (sizes_hints s) file) serves.serves.prepares.spans served.replies files files_now serves.serves.prepares.loads.1 serves.serves.plays.answers.one_each serves.back;
         };
       };
       deserved = λ told. measured-status (sizes_hints s) served.footer.content (files.file s.name) 0 told grammar (ap missing_status given.0);

@@ -1,7 +1,8 @@
 -- What the words of the program ask for.
-use Rattle.std.specs.Prelude.{◌≡◌, ℕ, ℤ, Bool, true, false, ◌&&◌, ◌==◌, nat_lt, nat_le, if◌then◌else◌, List, [], ◌∷◌, ◌++◌, length, codes, Option, Some, None, unwrap_or, Result, Ok, Err}
+use Rattle.std.specs.Prelude.{◌≡◌, ℕ, ℤ, Bool, true, false, ◌&&◌, ◌==◌, nat_lt, nat_le, if◌then◌else◌, List, [], ◌∷◌, ◌++◌, length, codes, Option, Some, None, is_some, unwrap_or, Result, Ok, Err}
 use Rattle.std.specs.Option.{option_map}
 use Rattle.std.specs.Str.{bytes_eq}
+use Rattle.vx_base.specs.Readers.{ReaderSettings}
 use Rattle.vx_data.specs.Dtype.{Dtype}
 use Rattle.vx_data.specs.TextsRead.{dtype_of_text}
 use Rattle.vx_main.specs.declared.command.Command.{Command}
@@ -14,7 +15,7 @@ use Rattle.vx_main.specs.declared.failure.Failure.{Failure}
 use Rattle.vx_main.specs.declared.failure.Failure.TheVariants as failures
 use Rattle.vx_main.specs.Numbers.{value_of}
 use Rattle.vx_main.specs.Options.{OptionShape, once, are_options, values_of, optional_number}
-use Rattle.vx_main.specs.Reading.{ReadingValue, reading_of}
+use Rattle.vx_main.specs.Reading.{ReadingValue, plain_reading, reading_of, settings_by}
 
 -- ---- names and values
 
@@ -55,10 +56,11 @@ optional_dtype (Some []) = None
 optional_dtype (Some (word ∷ [])) = option_map (λ d. Some d) (dtype_of_text word)
 optional_dtype (Some (word ∷ more ∷ words)) = None
 
--- the size of the file, how many bytes the first read is to ask for, the type of the rows, and how segments are read
+-- the size of the file, how many bytes the first read is to ask for, the type of the rows, whether the metadata is to be
+-- loaded, and how segments are read
 abbrev pub serve_shapes : List OptionShape
 serve_shapes =
-    once (codes "--size") 1 ∷ once (codes "--initial") 1 ∷ once (codes "--dtype") 1 ∷ once (codes "--distance") 1 ∷ once (codes "--max") 1 ∷ once (codes "--reads") 1 ∷ once (codes "--cache") 1 ∷ []
+    once (codes "--size") 1 ∷ once (codes "--initial") 1 ∷ once (codes "--dtype") 1 ∷ once (codes "--meta") 0 ∷ once (codes "--distance") 1 ∷ once (codes "--max") 1 ∷ once (codes "--reads") 1 ∷ once (codes "--cache") 1 ∷ []
 
 abbrev pub reading_by : Option (Option ℕ) → Option (Option ℕ) → Option (Option ℕ) → Option (Option ℕ) → Option ReadingValue
 reading_by None max reads kept = None
@@ -67,12 +69,12 @@ reading_by (Some distance) (Some max) None kept = None
 reading_by (Some distance) (Some max) (Some reads) None = None
 reading_by (Some distance) (Some max) (Some reads) (Some kept) = reading_of distance max reads kept
 
-abbrev pub served_by : List ℕ → Option (Option ℕ) → Option (Option ℕ) → Option ReadingValue → Option (Option Dtype) → Option serve.Serve
-served_by name None initial reading dtype = None
-served_by name (Some size) None reading dtype = None
-served_by name (Some size) (Some initial) None dtype = None
-served_by name (Some size) (Some initial) (Some reading) dtype =
-    option_map (λ d. record { name = name; size = size; initial = unwrap_or initial 0; reading = reading; dtype = d }) dtype
+abbrev pub served_by : List ℕ → Option (Option ℕ) → Option (Option ℕ) → Option ReadingValue → Bool → Option (Option Dtype) → Option serve.Serve
+served_by name None initial reading metadata dtype = None
+served_by name (Some size) None reading metadata dtype = None
+served_by name (Some size) (Some initial) None metadata dtype = None
+served_by name (Some size) (Some initial) (Some reading) metadata dtype =
+    option_map (λ d. record { name = name; size = size; initial = unwrap_or initial 0; reading = reading; metadata = metadata; dtype = d }) dtype
 
 -- the number of an option of `serve`, where it is given
 abbrev pub serve_number : List (List ℕ) → List ℕ → Option (Option ℕ)
@@ -85,7 +87,7 @@ serve_behind (Some name) words =
     if are_options serve_shapes words then
     served_by name (serve_number words (codes "--size")) (serve_number words (codes "--initial"))
     (reading_by (serve_number words (codes "--distance")) (serve_number words (codes "--max")) (serve_number words (codes "--reads")) (serve_number words (codes "--cache")))
-    (optional_dtype (values_of serve_shapes (codes "--dtype") words))
+    (is_some (values_of serve_shapes (codes "--meta") words)) (optional_dtype (values_of serve_shapes (codes "--dtype") words))
     else None
 
 abbrev pub serve_of : List (List ℕ) → Option Command
@@ -130,10 +132,10 @@ Parses o (Err _) = ⊥
 -- ---- what a command touches
 
 abbrev pub serve_hints : serve.Serve → Hints
-serve_hints s = record { size = s.size; initial = s.initial; dtype = s.dtype; footer = None }
+serve_hints s = record { size = s.size; initial = s.initial; dtype = s.dtype; footer = None; metadata = s.metadata }
 
 abbrev pub sizes_hints : sizes.Sizes → Hints
-sizes_hints s = record { size = None; initial = 0; dtype = s.dtype; footer = None }
+sizes_hints s = record { size = None; initial = 0; dtype = s.dtype; footer = None; metadata = false }
 
 -- what it is told of the file that it opens
 abbrev pub hints_of : Command → Hints
@@ -142,6 +144,14 @@ hints_of Version = no_hints
 hints_of (Serve s) = serve_hints s
 hints_of (Demo d) = no_hints
 hints_of (Sizes s) = sizes_hints s
+
+-- the settings with which it reads, by those of the reader
+abbrev pub settings_of_command : Command → ReaderSettings → ReaderSettings
+settings_of_command Help own = own
+settings_of_command Version own = own
+settings_of_command (Serve s) own = settings_by s.reading own
+settings_of_command (Demo d) own = own
+settings_of_command (Sizes s) own = settings_by plain_reading own
 
 -- the names of the files that it opens
 abbrev pub names_of : Command → List (List ℕ)

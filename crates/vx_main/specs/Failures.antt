@@ -15,13 +15,13 @@ use Rattle.vx_main.specs.declared.failure.Failure.{Failure}
 use Rattle.vx_main.specs.declared.failure.Failure.TheVariants as failures
 use Rattle.vx_file.specs.Hints.{IsSizeOf}
 use Rattle.vx_file.specs.Plans.{plan_of}
-use Rattle.vx_main.specs.Command.{names_of, reads_script, hints_of}
+use Rattle.vx_main.specs.Command.{names_of, reads_script, hints_of, settings_of_command}
 use Rattle.vx_main.specs.Input.{ReadsScript, BadLine, BadLength}
 use Rattle.vx_main.specs.Outputs.{IsAnswer, text_of, Deserves, LacksSegment}
 use Rattle.vx_main.specs.Outside.{Outside}
 use Rattle.vx_main.specs.Refusals.{refusal_words}
 use Rattle.vx_main.specs.Render.{fault_words}
-use Rattle.vx_main.specs.Served.{GaveBack, LeavesOpener, RefusesFile, LacksSize, LacksTail}
+use Rattle.vx_main.specs.Served.{GaveBack, LeavesOpener, RefusesFile, LacksFile}
 
 -- ---- statuses and lines
 
@@ -99,7 +99,7 @@ pub record ReadFault (c : Command) (before now : Outside) (fault : Fault) : Type
   pub back : GaveBack name before.files now.files
   pub rose : Rises 1 before.files.read_faults now.files.read_faults
   pub lacks : (file : List ℕ) → before.files.file name ≡ Some file → IsSizeOf (hints_of c).size file →
-      LacksSize (plan_of (hints_of c) file) name fault before.files now.files ⊎ LacksTail (plan_of (hints_of c) file) name fault before.files now.files
+      LacksFile (plan_of (hints_of c) file) (settings_of_command c (before.files.settings name)) name fault before.files now.files
 
 -- the file fails an opening check, and its reader was given back
 pub record Refusal (c : Command) (before now : Outside) (refusal : OpenError) : Type 0 where

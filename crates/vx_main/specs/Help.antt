@@ -25,6 +25,9 @@ initial_help = codes "      --initial N   the first read asks for the last N byt
 abbrev pub dtype_help : List ℕ
 dtype_help = codes "      --dtype D     the rows have the type D: the file's own is not read\n"
 
+abbrev pub meta_help : List ℕ
+meta_help = codes "      --meta        the values of the metadata are read and printed\n"
+
 abbrev pub distance_help : List ℕ
 distance_help = codes "      --distance D  reads at most D bytes apart are merged, and --max M: into one\n                    of at most M bytes\n"
 
@@ -78,5 +81,5 @@ example_help = codes "example\n  printf 'r 0\\np 0\\n' | vx demo 1 2 3 4\n"
 
 abbrev pub help_text : List ℕ
 help_text =
-    what_help ++ usage_help ++ commands_help ++ serve_help ++ serve_more_help ++ size_help ++ initial_help ++ dtype_help ++ distance_help ++ reads_help ++ cache_help ++ sizes_help ++ demo_help ++ texts_help ++ options_help
+    what_help ++ usage_help ++ commands_help ++ serve_help ++ serve_more_help ++ size_help ++ initial_help ++ dtype_help ++ meta_help ++ distance_help ++ reads_help ++ cache_help ++ sizes_help ++ demo_help ++ texts_help ++ options_help
     ++ script_help ++ register_help ++ poll_help ++ drop_help ++ drive_help ++ statuses_help ++ statuses_2_help ++ statuses_3_help ++ statuses_4_help ++ example_help

@@ -54,7 +54,7 @@ pub record IsServed (hints : Hints) (reading : ReadingValue) (name : List ℕ) (
   pub asked : AsksFor name before.files now.files
   pub back : GaveBack name before.files now.files
   pub serves : (file : List ℕ) → before.files.file name ≡ Some file → IsSizeOf hints.size file →
-      ServesFile (plan_of hints file) (settings_by reading (before.files.settings name)) (new_cache reading.kept) file name steps before.files now.files served
+      ServesFile (plan_of hints file) hints.metadata (settings_by reading (before.files.settings name)) (new_cache reading.kept) file name steps before.files now.files served
 
 -- the script of the input was served from the file of some values, and no file was opened
 pub record IsDemonstrated (values : List ℤ) (before now : Outside) (answer : Answer) : Type 0 where

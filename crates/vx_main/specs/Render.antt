@@ -27,6 +27,7 @@ use Rattle.vx_source.specs.declared.reply.Reply.TheVariants.{Registered, Missing
 use Rattle.vx_source.specs.declared.span.Span.{Span}
 use Rattle.vx_source.specs.declared.span.SpanOutcome.{SpanOutcome}
 use Rattle.vx_source.specs.declared.span.SpanOutcome.TheVariants.{Good, Bad}
+use Rattle.vx_file.specs.declared.metadata.MetadataValue.{MetadataValue}
 use Rattle.vx_file.specs.declared.served.Served.{Served}
 
 -- a word, and numbers behind it, each after a space
@@ -139,6 +140,15 @@ reply_text Dropped = codes "dropped\n"
 reply_text NotLive = codes "not-live\n"
 reply_text (Driven spans) = line (codes "driven") (length spans ∷ []) ++ flat_map span_line spans
 
--- the text of what was served: the footer, the opening ranges, and the replies
+-- a value of the metadata under its key
+abbrev pub value_line : MetadataValue → List ℕ
+value_line v = codes "value " ++ quoted v.key ++ codes " " ++ hex_text v.value.bytes ++ 10 ∷ []
+
+-- the values, where they were loaded
+abbrev pub values_text : Option (List MetadataValue) → List ℕ
+values_text None = []
+values_text (Some values) = flat_map value_line values
+
+-- the text of what was served: the footer, the values of the metadata, what was read before the script, and the replies
 abbrev pub render_text : Served → List ℕ
-render_text s = footer_text s.footer.content ++ flat_map read_line s.opening ++ flat_map reply_text s.replies
+render_text s = footer_text s.footer.content ++ values_text s.metadata ++ flat_map read_line s.opening ++ flat_map reply_text s.replies

@@ -1,5 +1,5 @@
 //! `serve NAME ..`: serves the segments of a file by the script on the input.
-ghost use Rattle.std.specs.Prelude.{◌≡◌, Some, map, string_bytes, codes, IfOk};
+ghost use Rattle.std.specs.Prelude.{◌≡◌, Some, is_some, map, string_bytes, codes, IfOk};
 ghost use Rattle.std.specs.Option.{option_map};
 ghost use Rattle.vx_base.specs.Openers.{SameOpener};
 ghost use Rattle.vx_main.specs.Command.{serve_of, serve_behind, serve_shapes, served_by, serve_number, reading_by, optional_dtype, serve_hints, Parses};
@@ -27,24 +27,26 @@ use vx_file::{ServeOptions, Served, Step};
 use vx_source::LruSegments;
 
 /// The arguments of `serve`: the size of the file and the type of its rows, where they are known, how many bytes the
-/// first read is to ask for, and how segments are read.
+/// first read is to ask for, whether the metadata is to be loaded, and how segments are read.
 #[derive(Drop)]
 pub struct Serve<'a> {
     pub name: Name<'a>,
     pub size: Option<u64>,
     pub initial: u64,
     pub reading: Reading,
+    pub metadata: bool,
     pub dtype: RowType,
 }
 
 /// The options of `serve`, in any order.
-fn shapes() -> [Shape; 7]
+fn shapes() -> [Shape; 8]
     ensures { result ≡ serve_shapes }
 {
     [
         Shape::once("--size", 1),
         Shape::once("--initial", 1),
         Shape::once("--dtype", 1),
+        Shape::once("--meta", 0),
         Shape::once("--distance", 1),
         Shape::once("--max", 1),
         Shape::once("--reads", 1),
@@ -72,6 +74,14 @@ fn dtype_values(words: &[String]) -> Option<&[String]>
 {
     let shapes = shapes();
     values_of(&shapes, "--dtype", words)
+}
+
+/// Whether the metadata is to be loaded.
+fn has_metadata(words: &[String]) -> bool
+    ensures { result ≡ is_some (values_of serve_shapes (codes "--meta") (map string_bytes words.now)) }
+{
+    let shapes = shapes();
+    values_of(&shapes, "--meta", words).is_some()
 }
 
 /// How segments are read by these numbers, where each is one.
@@ -133,6 +143,7 @@ impl<'a> Serve<'a> {
             number(words, "--size"),
             number(words, "--initial"),
             reading(words),
+            has_metadata(words),
             dtype_values(words),
         )
     }
@@ -144,9 +155,10 @@ impl<'a> Serve<'a> {
         size: Option<Option<u64>>,
         initial: Option<Option<u64>>,
         reading: Option<Reading>,
+        metadata: bool,
         dtype: Option<&[String]>,
     ) -> Result<Serve<'a>, Failure<'a>>
-        ensures { Parses (served_by name.entry size initial reading (optional_dtype (option_map (λ v. map string_bytes v.now) dtype.entry))) result }
+        ensures { Parses (served_by name.entry size initial reading metadata (optional_dtype (option_map (λ v. map string_bytes v.now) dtype.entry))) result }
     {
         let Some(size) = size else {
             return Err(Failure::Usage);
@@ -163,6 +175,7 @@ impl<'a> Serve<'a> {
                 size,
                 initial: initial.unwrap_or(0),
                 reading,
+                metadata,
                 dtype,
             }),
             Err(failure) => Err(failure),
@@ -178,6 +191,7 @@ impl<'a> Serve<'a> {
             options
                 .with_some_file_size(self.size)
                 .with_initial_read_size(self.initial as usize)
+                .with_include_metadata(self.metadata)
                 .with_some_dtype(self.dtype.share(alloc)?),
         )
     }

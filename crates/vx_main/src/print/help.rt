@@ -24,6 +24,8 @@ const INITIAL: &[u8] =
 const DTYPE: &[u8] =
     b"      --dtype D     the rows have the type D: the file's own is not read\n";
 
+const META: &[u8] = b"      --meta        the values of the metadata are read and printed\n";
+
 const DISTANCE: &[u8] =
     b"      --distance D  reads at most D bytes apart are merged, and --max M: into one\n                    of at most M bytes\n";
 
@@ -76,6 +78,7 @@ pub(crate) fn put_help<S: Sink>(text: &mut TextOut, out: &mut S)
     text.word(out, SIZE);
     text.word(out, INITIAL);
     text.word(out, DTYPE);
+    text.word(out, META);
     text.word(out, DISTANCE);
     text.word(out, READS);
     text.word(out, CACHE);
