@@ -1,8 +1,11 @@
 -- Segments that are fetched in one call.
-use Rattle.std.proofs.Common.{◌≡◌, ℕ, ◌+◌, ◌<◌, ◌≤◌, inl, inr, List, [], ◌∷◌, ◌++◌, length, map, drop, get_or, Option, Some, None, refl, sym, ap, ◌∙◌, subst, append_assoc, drop-cons, add-one, ◌&&◌, not}
+use Rattle.std.proofs.Common.{◌≡◌, ℕ, ◌+◌, ◌<◌, ◌≤◌, inl, inr, ⊎_elim, List, [], ◌∷◌, ◌++◌, length, map, drop, get_or, Option, Some, None, refl, sym, ap, ◌∙◌, subst, append_assoc, drop-cons, add-one, ◌&&◌, not}
+use Rattle.std.specs.Prelude.{is_some}
+use Rattle.std.specs.Option.{option_map}
 use Rattle.std.proofs.lemmas.List.{append-nil, drop_all}
 use Rattle.vx_base.specs.Asking.{Log}
-use Rattle.vx_base.specs.Caches.{CacheState}
+use Rattle.vx_base.specs.Caches.{CacheState, OldEntries, buffer_of}
+use Rattle.vx_base.specs.Counts.{Rises}
 use Rattle.vx_base.specs.declared.segment.SegmentId.{SegmentId}
 use Rattle.vx_source.specs.Asks.{Grew, asked_by}
 use Rattle.vx_source.specs.Bytes.{IsTrueReply}
@@ -11,13 +14,14 @@ use Rattle.vx_source.specs.Fetching.{at_register, at_poll, IsRegistered, Registe
 use Rattle.vx_source.specs.Fits.{World, IsRow, covers, driven}
 use Rattle.vx_source.specs.History.{polls, drives, Moment, moment, made, segment_of, is_held, read_of, outcome_of}
 use Rattle.vx_source.specs.Kept.{Kept}
-use Rattle.vx_source.specs.Puts.{PutsBy}
+use Rattle.vx_source.specs.Puts.{PutsBy, kept_of, missed}
 use Rattle.vx_source.specs.Stands.{Stands, IsNext, Registers}
 use Rattle.vx_source.specs.declared.fetching.Fetch.{Fetch}
 use Rattle.vx_source.specs.declared.fetching.Fetched.{Fetched}
 use Rattle.vx_source.specs.declared.reply.Reply.{Reply}
 use Rattle.vx_source.specs.declared.reply.Reply.TheVariants.{Registered, MissingSegment, Ready, Pending, Failed, Dropped, NotLive, Driven}
 use Rattle.vx_source.specs.declared.span.Span.{Span}
+use Rattle.vx_source.proofs.PutLemmas.{told-some}
 
 -- the rest of a list begins with the element at its place
 pub rest-at : {X : Type 0} (xs : List X) (i : ℕ) (d : X) → i < length xs → drop i xs ≡ get_or xs i d ∷ drop (i + 1) xs
@@ -59,6 +63,58 @@ registers-all w past before after ids i first k past_end h = subst (λ rest. Reg
 pub registers-whole : (w : World) (past : List Moment) (before after : CacheState) (ids : List SegmentId) (first : List Fetch) (k : Kept)
     (h : RegistersSome w past before after ids [] first k) → Registering w past before ids first h.now after
 registers-whole w past before after ids first k h = subst (λ l. Registering w past before l first h.now after) (sym (append-nil h.done) ∙ h.split) h.registers
+
+-- registers put nothing, and bring no entry
+pub record KeepsPuts (before after : CacheState) : Type 0 where
+  pub puts : after.puts ≡ before.puts
+  pub lost : after.lost ≡ before.lost
+  pub from : OldEntries before.entries after.entries
+  pub tells : is_some after.entries ≡ is_some before.entries
+
+old-then : (a b c : CacheState) → KeepsPuts a b → is_some b.entries ≡ is_some a.entries → OldEntries b.entries c.entries → OldEntries a.entries c.entries
+old-then a b c h tells k = λ es fs q x e f is.
+    let mid = told-some a.entries b.entries es (sym tells) e in
+    h.from es mid.0 q x e mid.1 (k mid.0 fs q x mid.1 f is)
+
+registering-puts : (w : World) (past : List Moment) (before : CacheState) (ids : List SegmentId) (first : List Fetch) (now : List Moment) (after : CacheState) → Registering w past before ids first now after → KeepsPuts before after
+registering-puts w past before [] [] now after h = subst (KeepsPuts before) (sym h.1) (record {
+  puts = refl;
+  lost = refl;
+  from = λ es fs q x e f is. let same : Some es ≡ Some fs = sym e ∙ f in let equal : fs ≡ es = cc in subst (λ l. buffer_of l q ≡ Some x) equal is;
+  tells = refl;
+})
+registering-puts w past before [] (f ∷ more) now after h = absurd h
+registering-puts w past before (id ∷ rest) [] now after h = absurd h
+registering-puts w past before (id ∷ rest) (f ∷ more) now after h =
+    let got = h.2.cache in
+    let later = registering-puts w h.0 h.1 rest more now after h.3 in
+    record {
+      puts = later.puts ∙ got.puts;
+      lost = later.lost ∙ got.lost;
+      from = old-then before h.1 after (record { puts = got.puts; lost = got.lost; from = got.from; tells = got.tells }) got.tells later.from;
+      tells = later.tells ∙ got.tells;
+    }
+
+-- what a drive puts after registers
+puts-after : (w : World) (past : List Moment) (before mid after : CacheState) (ids : List SegmentId) (first : List Fetch) (now waiting : List Moment) (spans : List Span) → Registering w past before ids first now mid
+    → PutsBy waiting spans mid after → PutsBy waiting spans before after
+puts-after w past before mid after ids first now waiting spans h p =
+    let k = registering-puts w past before ids first now mid h in
+    let g = p.gains in
+    record {
+      puts = p.puts;
+      segments = p.segments;
+      gains = record {
+        kept = g.kept;
+        size = g.size;
+        log = g.log ∙ ap (option_map (λ l. l ++ kept_of g.kept p.puts)) k.puts;
+        lost = subst (λ n. Rises (missed g.kept) n after.lost) k.lost g.lost;
+        from = λ es fs q x e f is.
+            let middle = told-some before.entries mid.entries es (sym k.tells) e in
+            ⊎_elim (λ old. inl (k.from es middle.0 q x e middle.1 old)) inr (g.from middle.0 fs q x middle.1 f is);
+        tells = g.tells ∙ k.tells;
+      };
+    }
 
 -- ---- polls
 
@@ -196,7 +252,7 @@ module _ (w : World) (past : List Moment) (before mid after : CacheState) (ids :
     second = second;
     polls = h.polls;
     drive = d.row;
-    puts = puts;
+    puts = puts-after w past before mid after ids first h.registered h.waiting fetched.spans h.registers puts;
     now = p.now;
     last = last;
     again = polls-whole w (driven fetched.spans h.waiting) second last k'' p;

@@ -84,7 +84,7 @@ pub record Fetches (w : World) (past : List Moment) (before after : CacheState) 
   pub second : List Fetch
   pub polls : Polling w registered first second waiting
   pub drive : IsRow w waiting drives (Driven fetched.spans)
-  pub puts : PutsBy waiting fetched.spans cache after
+  pub puts : PutsBy waiting fetched.spans before after
   pub now : List Moment
   pub last : List Fetch
   pub again : Polling w (driven fetched.spans waiting) second last now

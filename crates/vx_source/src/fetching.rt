@@ -150,8 +150,8 @@ impl Session {
         ensures bad { IfOk result (λ fetched. Rises (bad_spans fetched.spans) (R.state reader.old).faults (R.state reader.new).faults) }
         ensures failures { IfOk result (λ fetched. (w : World) (past : List Moment) → Stands w past self.old →
             Rises (cache_failures fetched.replies) (C.state cache.old).faults (C.state cache.new).faults) }
-        ensures slices { IfOk result (λ fetched. (w : World) (past : List Moment) (file : List ℕ) → (R.state reader.old).bytes ≡ Some file → Stands w past self.old →
-            HasBytes file self.old → TellsSlices file w.table (C.state cache.old) → HaveSlices file w.table ids.now fetched.replies) }
+        ensures slices { IfOk result (λ fetched. (w : World) (past : List Moment) (file : List ℕ) → (R.state reader.old).bytes ≡ Some file →
+            Stands w past self.old → HasBytes file self.old → TellsSlices file w.table (C.state cache.old) → HaveSlices file w.table ids.now fetched.replies) }
         ensures bytes { (w : World) (past : List Moment) (file : List ℕ) → (R.state reader.old).bytes ≡ Some file → Stands w past self.old →
             HasBytes file self.old → TellsSlices file w.table (C.state cache.old) → HasBytes file self.new × TellsSlices file w.table (C.state cache.new) }
         // Of a reader that never fails the count stands still, and no span fails, where each segment ends within the file.

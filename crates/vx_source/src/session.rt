@@ -665,8 +665,8 @@ impl Session {
         // Of a reader that never fails the count stands still, and no span fails, where each segment ends within the file.
         ensures steady { (w : World) (past : List Moment) (file : List ℕ) → (R.state reader.old).never_fails ≡ true → (R.state reader.old).bytes ≡ Some file →
             Stands w past self.old → EndsWithin (length file) w.table → (R.state reader.new).faults ≡ (R.state reader.old).faults }
-        ensures sound { IfOk result (λ spans. (w : World) (past : List Moment) (file : List ℕ) → (R.state reader.old).never_fails ≡ true → (R.state reader.old).bytes ≡ Some file →
-            Stands w past self.old → EndsWithin (length file) w.table → bad_spans spans.items ≡ 0) }
+        ensures sound { IfOk result (λ spans. (w : World) (past : List Moment) (file : List ℕ) → (R.state reader.old).never_fails ≡ true →
+            (R.state reader.old).bytes ≡ Some file → Stands w past self.old → EndsWithin (length file) w.table → bad_spans spans.items ≡ 0) }
         ensures stopped { OnErr result ((w : World) (past : List Moment) → Stands w past self.old →
             StopsDrive w past (R.state reader.old).log (R.state reader.new).log (C.state cache.old) (C.state cache.new) self.new) }
         ensures puts { IfOk result (λ spans. (w : World) (past : List Moment) → Stands w past self.old →
