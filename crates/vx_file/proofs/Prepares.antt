@@ -8,23 +8,19 @@ use Rattle.vx_base.specs.Counts.{Rises}
 use Rattle.vx_base.specs.Readers.{ReaderState, ReaderSettings, SameReader, settings_of}
 use Rattle.vx_base.specs.declared.segment_cache.CacheError.{CacheError}
 use Rattle.vx_base.specs.declared.segment_cache.CacheError.TheVariants as cache_error
-use Rattle.vx_base.specs.declared.segment.SegmentId.{SegmentId}
 use Rattle.vx_base.specs.declared.segment.SegmentSpec.{SegmentSpec}
 use Rattle.vx_footer.specs.Footers.{FooterContent, segment_table}
 use Rattle.vx_source.specs.Asks.{Grew, asked_by, bad_spans}
 use Rattle.vx_source.specs.Bytes.{HasBytes, TellsSlices, IsEnd}
-use Rattle.vx_source.specs.Fetching.{Registering}
-use Rattle.vx_source.specs.Fits.{World, asks}
-use Rattle.vx_source.specs.History.{Moment}
+use Rattle.vx_source.specs.Fits.{World}
 use Rattle.vx_source.specs.Kept.{Kept, tail_start}
 use Rattle.vx_source.specs.Puts.{Gains}
 use Rattle.vx_source.specs.Stands.{Stands}
-use Rattle.vx_source.specs.declared.fetching.Fetch.{Fetch}
 use Rattle.vx_source.specs.declared.fetching.Fetched.{Fetched}
 use Rattle.vx_source.specs.declared.tail.Tail.{Tail}
 use Rattle.vx_source.proofs.BytesLemmas.{gained-slices}
 use Rattle.vx_source.proofs.DriveLemmas.{grew-then, rises-then}
-use Rattle.vx_source.proofs.PutLemmas.{gains-then, ids-append}
+use Rattle.vx_source.proofs.PutLemmas.{gains-then}
 use Rattle.vx_file.specs.declared.metadata.Loaded.{Loaded}
 use Rattle.vx_file.specs.declared.opened.Opened.{Opened}
 use Rattle.vx_file.specs.declared.prepared.Prepared.{Prepared}
@@ -36,9 +32,9 @@ use Rattle.vx_file.specs.Opened.{OpensBy, OpenCause}
 use Rattle.vx_file.specs.Plans.{Plan, table_world, world_of, covered_by}
 use Rattle.vx_file.specs.Prepared.{PreparedFrom, PrepareCause}
 use Rattle.vx_file.specs.Ranges.{opening_range, opened}
-use Rattle.vx_file.specs.Serving.{OpeningRose, FaultRose, LoadsIf, put_error, numbers_of, StopsOpening, StopsMetadata}
+use Rattle.vx_file.specs.Serving.{OpeningRose, FaultRose, LoadsIf, put_error, StopsOpening, StopsMetadata}
 use Rattle.vx_file.proofs.Covering.{covered-slices}
-use Rattle.vx_file.proofs.Serves.{Put, put-none, put-got, tail-start, tail-end}
+use Rattle.vx_file.proofs.Serves.{Put, tail-start, tail-end}
 
 -- ---- a session over the tail of a file
 
@@ -82,26 +78,9 @@ opening-rose (FaultOf fault) before now cache h = h
 opening-rose CacheFault before now cache h = absurd h
 opening-rose OutOfMemory before now cache h = tt
 
--- registers put nothing
-registers-put : (w : World) (past : List Moment) (before : CacheState) (ids : List SegmentId) (fs : List Fetch) (now : List Moment) (after : CacheState) → Registering w past before ids fs now after → Put [] before after
-registers-put w past before [] [] now after h = put-none before after h.1
-registers-put w past before [] (f ∷ fs) now after h = absurd h
-registers-put w past before (id ∷ ids) [] now after h = absurd h
-registers-put w past before (id ∷ ids) (f ∷ fs) now after h =
-    let one = put-got (asks w id.0) id.0 h.2.got before h.1 h.2.cache in
-    let more = registers-put w h.0 h.1 ids fs now after h.3 in
-    record { driven = one.driven ++ more.driven; are = ids-append one.driven more.driven ∙ ap (λ l. l ++ numbers_of more.driven) one.are ∙ more.are; gains = gains-then one.driven more.driven before h.1 after one.gains more.gains }
-
 -- a drive for the metadata puts the reads of its good spans
 drives-put : (w : World) (footer : FooterContent) (cache cache_now : CacheState) (fetched : Fetched) (d : Drives w footer cache cache_now fetched) → Put (put_numbers w footer cache cache_now fetched d) cache cache_now
-drives-put w footer cache cache_now fetched d =
-    let f = d.fetches in
-    let front = registers-put w [] cache _ f.first f.registered f.cache f.registers in
-    record {
-      driven = front.driven ++ f.puts.puts;
-      are = ids-append front.driven f.puts.puts ∙ ap (λ l. l ++ numbers_of f.puts.puts) front.are ∙ f.puts.segments;
-      gains = gains-then front.driven f.puts.puts cache f.cache cache_now front.gains f.puts.gains;
-    }
+drives-put w footer cache cache_now fetched d = record { driven = d.fetches.puts.puts; are = d.fetches.puts.segments; gains = d.fetches.puts.gains }
 
 -- a file was opened by a plan, and its covered segments were put into the cache
 module _ (plan : Plan) (include : Bool) (file : List ℕ) (start mid : ReaderState) (o : Opened) (h : OpensBy plan file start mid o) where
