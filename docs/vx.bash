@@ -6,8 +6,8 @@ _vx() {
         mapfile -t COMPREPLY < <(compgen -W 'serve sizes demo --help --version' -- "$word")
     elif [ "$COMP_CWORD" -eq 2 ] && [[ ${COMP_WORDS[1]} == @(serve|sizes) ]]; then
         mapfile -t COMPREPLY < <(compgen -f -- "$word")
-    elif [ "${COMP_WORDS[1]}" = serve ] && [[ ${COMP_WORDS[COMP_CWORD - 1]} != --* ]]; then
-        mapfile -t COMPREPLY < <(compgen -W '--size --initial --dtype --distance --max --reads --cache' -- "$word")
+    elif [ "${COMP_WORDS[1]}" = serve ] && [[ ${COMP_WORDS[COMP_CWORD - 1]} != --* || ${COMP_WORDS[COMP_CWORD - 1]} == --meta ]]; then
+        mapfile -t COMPREPLY < <(compgen -W '--size --initial --dtype --meta --distance --max --reads --cache' -- "$word")
     elif [ "$COMP_CWORD" -eq 3 ] && [ "${COMP_WORDS[1]}" = sizes ]; then
         mapfile -t COMPREPLY < <(compgen -W '--dtype' -- "$word")
     fi

@@ -13,6 +13,8 @@ mod served;
 mod serving;
 mod step;
 mod steps;
+#[cfg(test)]
+mod tests;
 
 pub use memory::serve_in_memory;
 pub use metadata::MetadataValue;
