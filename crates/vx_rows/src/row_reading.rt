@@ -1,0 +1,158 @@
+//! Reads rows from text.
+ghost use Rattle.std.specs.Prelude.{◌≡◌, ◌<◌, ◌≤◌, true, length, Some, codes};
+ghost use Rattle.std.specs.Option.{option_map, option_and_then};
+ghost use Rattle.vx_base.specs.Checks.{Gives, ◌lacking◌};
+ghost use Rattle.vx_data.specs.Dtype.{dtype_view};
+ghost use Rattle.vx_data.specs.Texts.{comma};
+ghost use Rattle.vx_data.specs.TextsRead.{FailsToRead as FailsToReadValue, after as after_front};
+ghost use Rattle.vx_data.specs.declared.text_error.TextError.TheVariants.{BadText};
+ghost use Rattle.vx_rows.specs.Rows.{column_view, no_columns};
+ghost use Rattle.vx_rows.specs.Builders.{builder_view, builders_view, pairs_view};
+ghost use Rattle.vx_rows.specs.ReadRows.{FailsToRead, value_in, values_in, closed, line_in, rows_behind, lines_of, rows_of};
+
+use crate::builder::{Builder, Builders, begin, finish, push_absent_fields};
+use crate::flags::Flags;
+use crate::value_reading::read_null;
+use crate::{Column, RowsError};
+use std::alloc::Global;
+use vx_data::{DType, TextError, after};
+
+/// What follows a front, which must come.
+fn expect<'a>(text: &'a [u8], front: &[u8]) -> Result<&'a [u8], TextError>
+    ensures { Gives FailsToReadValue (λ rest. rest.now) result (BadText lacking after_front front.now text.now) }
+{
+    match after(text, front) {
+        Some(rest) => Ok(rest),
+        None => Err(TextError::BadText),
+    }
+}
+
+/// What follows a comma, which must come before each field but the first.
+fn expect_comma(is_first: bool, text: &[u8]) -> Result<&[u8], TextError>
+    ensures { Gives FailsToReadValue (λ rest. rest.now) result (BadText lacking after_front (comma is_first) text.now) }
+{
+    if is_first {
+        return Ok(text);
+    }
+    expect(text, b",")
+}
+
+/// Adds the values of fields in front, and gives what follows them.
+#[cycle(reading_rows)]
+fn read_fields<'a>(
+    alloc: Global,
+    builders: &mut Vec<(String, Builder)>,
+    text: &'a [u8],
+) -> Result<&'a [u8], TextError>
+    ensures { Gives FailsToReadValue (λ rest. (pairs_view builders.new.items, rest.now)) result
+        (BadText lacking values_in true (pairs_view builders.old.items) text.now) }
+{
+    let mut rest = text;
+    let mut is_first = true;
+    for at in 0..builders.len() {
+        let value = expect_comma(is_first, rest)?;
+        let builder = &mut builders[at];
+        rest = read_value(alloc, &mut builder.1, value)?;
+        is_first = false;
+    }
+    Ok(rest)
+}
+
+/// Adds the values of a struct's fields in front, and gives what follows them.
+#[cycle(reading_rows)]
+fn read_struct<'a>(
+    alloc: Global,
+    builders: &mut Builders,
+    text: &'a [u8],
+) -> Result<&'a [u8], TextError>
+    ensures { Gives FailsToReadValue (λ rest. (builders_view builders.new, rest.now)) result
+        (BadText lacking values_in true (builders_view builders.old) text.now) }
+{
+    read_fields(alloc, &mut builders.builders, text)
+}
+
+/// Adds the value in front, and gives what follows it.
+#[cycle(reading_rows)]
+fn read_value<'a>(
+    alloc: Global,
+    builder: &mut Builder,
+    text: &'a [u8],
+) -> Result<&'a [u8], TextError>
+    ensures { Gives FailsToReadValue (λ rest. (builder_view builder.new, rest.now)) result
+        (BadText lacking value_in (builder_view builder.old) text.now) }
+{
+    match builder {
+        Builder::Bool(rows) => rows.read(text),
+        Builder::Int(rows) => rows.read(text),
+        Builder::Text(rows) => rows.read(alloc, text),
+        Builder::Struct(rows, builders) => {
+            if let Some(rest) = read_null(rows.is_nullable(), text) {
+                rows.push(false)?;
+                push_absent_fields(builders)?;
+                return Ok(rest);
+            }
+            let inside = expect(text, b"(")?;
+            rows.push(true)?;
+            let behind = read_struct(alloc, builders, inside)?;
+            expect(behind, b")")
+        }
+    }
+}
+
+/// The first line, and what follows its line feed.
+fn split_line(text: &[u8]) -> (&[u8], &[u8]) {
+    for at in 0..text.len() {
+        if text[at] == b'\n' {
+            return (&text[..at], &text[at + 1..]);
+        }
+    }
+    text.split_at(text.len())
+}
+
+/// Adds the value that a line is.
+fn read_line(alloc: Global, builder: &mut Builder, line: &[u8]) -> Result<(), TextError>
+    ensures { Gives FailsToReadValue (λ _. builder_view builder.new) result
+        (BadText lacking line_in (builder_view builder.old) line.now) }
+{
+    let rest = read_value(alloc, builder, line)?;
+    if !rest.is_empty() {
+        return Err(TextError::BadText);
+    }
+    Ok(())
+}
+
+/// What a line's refusal is, where the line has this number.
+fn refusal(error: TextError, line: u64) -> RowsError {
+    match error {
+        TextError::BadText => RowsError::BadLine(line),
+        TextError::OutOfMemory => RowsError::OutOfMemory,
+    }
+}
+
+/// Adds the rows of lines.
+fn read_lines(alloc: Global, builder: &mut Builder, text: &[u8]) -> Result<(), RowsError>
+    ensures { Gives FailsToRead (λ _. builder_view builder.new) result
+        (rows_behind (builder_view builder.old) 0 (lines_of text.now)) }
+{
+    let mut number = 0;
+    let mut rest = text;
+    while !rest.is_empty() {
+        let (line, behind) = split_line(rest);
+        if let Err(error) = read_line(alloc, builder, line) {
+            return Err(refusal(error, number));
+        }
+        number += 1;
+        rest = behind;
+    }
+    Ok(())
+}
+
+/// The column of a type whose rows a text spells, one line each, as `push_rows` prints them. The last line feed
+/// may lack. The first line, from 0, that is no value of the type is BadLine.
+pub fn read_rows(alloc: Global, dtype: &DType, text: &str) -> Result<Column, RowsError>
+    ensures { Gives FailsToRead column_view result (rows_of (dtype_view dtype.now) text.now) }
+{
+    let mut builder = begin(alloc, dtype)?;
+    read_lines(alloc, &mut builder, text.as_bytes())?;
+    Ok(finish(alloc, builder)?)
+}
