@@ -17,3 +17,7 @@ pub mod TextBackLemmas
 pub mod TreeBackLemmas
 pub mod PrintedLemmas
 pub mod SoundLemmas
+pub mod GrowingLemmas
+pub mod BuilderLemmas
+pub mod DigitLemmas
+pub mod PlainTextLemmas

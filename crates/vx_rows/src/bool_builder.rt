@@ -1,9 +1,10 @@
 //! Columns of truth values that grow row by row.
-ghost use Rattle.std.specs.Prelude.{◌≡◌, ◌||◌, not, [], true, false, Some, None, if◌then◌else◌, IfOk, OnOk};
+ghost use Rattle.std.specs.Prelude.{ℕ, List, ◌≡◌, ◌||◌, not, [], true, false, Some, None, if◌then◌else◌, IfOk, OnOk};
 ghost use Rattle.vx_base.specs.Checks.{Gives, ◌lacking◌};
 ghost use Rattle.std.specs.Option.{option_map};
 ghost use Rattle.vx_data.specs.declared.text_error.TextError.TheVariants.{BadText};
 ghost use Rattle.vx_data.specs.TextsRead.{FailsToRead};
+ghost use Rattle.vx_rows.specs.Columns.{Bools};
 ghost use Rattle.vx_rows.specs.ReadValues.{optional_in, truth_in};
 ghost use Rattle.vx_rows.specs.ReadRows.{more_bools, null_or};
 
@@ -75,7 +76,7 @@ impl BoolBuilder {
 
     /// Adds the value in front, and gives what follows it.
     pub fn read<'a>(&mut self, text: &'a [u8]) -> Result<&'a [u8], TextError>
-        ensures { Gives FailsToRead (λ rest. (self.new, rest.now)) result
+        ensures { Gives {A = Bools × List ℕ} FailsToRead (λ rest. (self.new, rest.now)) result
             (BadText lacking option_map (λ x. (more_bools self.old x.0, x.1)) (optional_in truth_in self.old.nullable text.now)) }
     {
         if let Some(rest) = read_null(self.present.is_nullable(), text) {

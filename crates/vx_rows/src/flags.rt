@@ -77,7 +77,7 @@ impl Flags {
     }
 
     /// The rows, as those of structs.
-    #[tactic(auto, using(crate::proofs::GrowingLemmas::structs_kept))]
+    #[tactic(auto, using(crate::proofs::MakingLemmas::structs_made))]
     pub fn to_structs(&self, alloc: Global) -> Result<StructRows, AllocError>
         ensures { IfOk result (λ rows. rows ≡ self.now) }
     {

@@ -1,10 +1,11 @@
 //! Columns of integers that grow row by row.
-ghost use Rattle.std.specs.Prelude.{◌≡◌, ◌||◌, [], pos, true, Some, None, is_some, IfOk, IfSome, OnOk};
+ghost use Rattle.std.specs.Prelude.{ℕ, List, ◌≡◌, ◌||◌, [], pos, true, Some, None, is_some, IfOk, IfSome, OnOk};
 ghost use Rattle.vx_base.specs.Checks.{Gives, ◌lacking◌};
 ghost use Rattle.std.specs.Option.{option_map};
 ghost use Rattle.vx_data.specs.declared.text_error.TextError.TheVariants.{BadText};
 ghost use Rattle.vx_data.specs.TextsRead.{FailsToRead};
 ghost use Rattle.vx_rows.specs.Written.{is_within};
+ghost use Rattle.vx_rows.specs.Columns.{Ints};
 ghost use Rattle.vx_rows.specs.ReadValues.{optional_in, number_in};
 ghost use Rattle.vx_rows.specs.ReadRows.{more_ints, null_or};
 
@@ -84,7 +85,7 @@ impl IntBuilder {
 
     /// Adds the value in front, and gives what follows it.
     pub fn read<'a>(&mut self, text: &'a [u8]) -> Result<&'a [u8], TextError>
-        ensures { Gives FailsToRead (λ rest. (self.new, rest.now)) result
+        ensures { Gives {A = Ints × List ℕ} FailsToRead (λ rest. (self.new, rest.now)) result
             (BadText lacking option_map (λ x. (more_ints self.old x.0, x.1)) (optional_in (number_in self.old.ptype) self.old.nullable text.now)) }
     {
         if let Some(rest) = read_null(self.present.is_nullable(), text) {

@@ -1,9 +1,10 @@
 //! Columns of texts that grow row by row.
-ghost use Rattle.std.specs.Prelude.{◌≡◌, ◌||◌, ◌++◌, ◌∷◌, [], length, true, Some, None, if◌then◌else◌, IfOk, OnOk, OnErr};
+ghost use Rattle.std.specs.Prelude.{ℕ, List, ◌≡◌, ◌||◌, ◌++◌, ◌∷◌, [], length, true, Some, None, if◌then◌else◌, IfOk, OnOk, OnErr};
 ghost use Rattle.vx_base.specs.Checks.{Gives, ◌lacking◌};
 ghost use Rattle.std.specs.Option.{option_map};
 ghost use Rattle.vx_data.specs.declared.text_error.TextError.TheVariants.{BadText};
 ghost use Rattle.vx_data.specs.TextsRead.{FailsToRead, quoted_in};
+ghost use Rattle.vx_rows.specs.Columns.{Texts};
 ghost use Rattle.vx_rows.specs.ReadValues.{optional_in};
 ghost use Rattle.vx_rows.specs.ReadRows.{more_texts, null_or};
 
@@ -104,7 +105,7 @@ impl TextBuilder {
 
     /// Adds the value in front, and gives what follows it.
     pub fn read<'a>(&mut self, alloc: Global, text: &'a [u8]) -> Result<&'a [u8], TextError>
-        ensures { Gives FailsToRead (λ rest. (self.new, rest.now)) result
+        ensures { Gives {A = Texts × List ℕ} FailsToRead (λ rest. (self.new, rest.now)) result
             (BadText lacking option_map (λ x. (more_texts self.old x.0, x.1)) (optional_in quoted_in self.old.nullable text.now)) }
     {
         if let Some(rest) = read_null(self.present.is_nullable(), text) {

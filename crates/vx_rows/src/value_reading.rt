@@ -1,10 +1,11 @@
 //! Reads the texts of values.
-ghost use Rattle.std.specs.Prelude.{◌≡◌, ◌+◌, ◌*◌, ◌-◌, ◌<◌, ◌≤◌, ◌^◌, true, Some, IfSome, length, ◌==◌};
+ghost use Rattle.std.specs.Prelude.{◌≡◌, ◌+◌, ◌*◌, ◌-◌, ◌<◌, ◌≤◌, ◌^◌, true, false, Some, IfSome, length, take, slice_index};
+ghost use Rattle.std.specs.List.{list_all};
 ghost use Rattle.std.specs.Option.{option_map, option_and_then};
 ghost use Rattle.vx_data.specs.Texts.{is_quote_plain};
 ghost use Rattle.vx_data.specs.TextsRead.{quoted_in};
 ghost use Rattle.vx_rows.specs.Written.{is_within as within};
-ghost use Rattle.vx_rows.specs.ReadValues.{null_in, truth_in, is_digit as digit, digits_in, natural_in, integer_in, narrow, narrowed, below_zero, within_range, number_in};
+ghost use Rattle.vx_rows.specs.ReadValues.{null_in, truth_in, is_digit as is_decimal, digits_in, natural_in, integer_in, narrow, narrowed, below_zero, within_range, number_in};
 ghost use Rattle.vx_data.specs.declared.ptype.PType.{PType};
 
 use crate::text_column::text_of;
@@ -31,7 +32,7 @@ pub fn read_truth(text: &[u8]) -> Option<(bool, &[u8])>
 /// Whether a byte is a decimal digit.
 #[inline(always)]
 fn is_digit(byte: u8) -> bool
-    ensures { result ≡ digit byte }
+    ensures { result ≡ is_decimal byte }
 {
     byte >= b'0' && byte <= b'9'
 }
@@ -39,7 +40,7 @@ fn is_digit(byte: u8) -> bool
 /// A number with a digit more, where it is below 2^64.
 #[inline(always)]
 fn with_digit(number: u64, digit: u8) -> Option<u64>
-    requires { digit digit ≡ true }
+    requires { is_decimal digit ≡ true }
     ensures { result ≡ narrow (10 * number + (digit - 48)) }
 {
     let tens = number.checked_mul(10)?;
@@ -47,6 +48,7 @@ fn with_digit(number: u64, digit: u8) -> Option<u64>
 }
 
 /// The number whose first digits spell this one, where it is below 2^64, and what follows its digits.
+#[tactic(auto, using(crate::proofs::DigitLemmas::digit_steps))]
 fn read_digits(first: u64, text: &[u8]) -> Option<(u64, &[u8])>
     ensures { option_map (λ x. (x.0, x.1.now)) result ≡ narrowed (digits_in first text.now) }
 {
@@ -63,6 +65,7 @@ fn read_digits(first: u64, text: &[u8]) -> Option<(u64, &[u8])>
 }
 
 /// A decimal number below 2^64, and what follows.
+#[tactic(auto, unfolding(crate::specs::ReadValues::natural_in))]
 fn read_natural(text: &[u8]) -> Option<(u64, &[u8])>
     ensures { option_map (λ x. (x.0, x.1.now)) result ≡ option_and_then narrowed (natural_in text.now) }
 {
@@ -104,6 +107,7 @@ fn read_negative(text: &[u8]) -> Option<(i128, &[u8])>
 }
 
 /// An integer, and what follows. One that no type has may be missed.
+#[tactic(auto, using(crate::proofs::DigitLemmas::integer_steps))]
 fn read_integer(text: &[u8]) -> Option<(i128, &[u8])>
     ensures { (p : PType) → option_and_then (within_range p) (option_map (λ x. (x.0, x.1.now)) result) ≡ number_in p text.now }
 {
@@ -135,7 +139,12 @@ fn is_plain(byte: u8) -> bool
 }
 
 /// How many bytes that stand for themselves come first.
-fn plain_length(text: &[u8]) -> usize {
+#[tactic(auto, using(crate::proofs::PlainTextLemmas::plain_more))]
+fn plain_length(text: &[u8]) -> usize
+    ensures inside { result ≤ length text.now }
+    ensures all { list_all is_quote_plain (take result text.now) ≡ true }
+    ensures stop { result < length text.now → is_quote_plain (slice_index text.now result) ≡ false }
+{
     for at in 0..text.len() {
         if !is_plain(text[at]) {
             return at;
@@ -145,6 +154,7 @@ fn plain_length(text: &[u8]) -> usize {
 }
 
 /// Quoted text whose bytes all stand for themselves, and what follows.
+#[tactic(auto, using(crate::proofs::PlainTextLemmas::plain_utf8, crate::proofs::PlainTextLemmas::plain_read))]
 pub fn read_plain(text: &[u8]) -> Option<(&str, &[u8])>
     ensures { IfSome result (λ x. quoted_in text.now ≡ Some (x.0.now, x.1.now)) }
 {
