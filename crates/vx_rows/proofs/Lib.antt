@@ -21,3 +21,4 @@ pub mod GrowingLemmas
 pub mod BuilderLemmas
 pub mod DigitLemmas
 pub mod PlainTextLemmas
+pub mod BuildingLemmas

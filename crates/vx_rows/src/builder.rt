@@ -1,7 +1,7 @@
 //! Columns of any type that grow row by row.
 ghost use Rattle.std.specs.Prelude.{◌≡◌, IfOk, OnOk};
 ghost use Rattle.vx_data.specs.Dtype.{dtype_view, fields_view, pairs_view as types_view};
-ghost use Rattle.vx_rows.specs.Rows.{column_view, columns_view};
+ghost use Rattle.vx_rows.specs.Rows.{column_view, columns_view, pairs_view as columns_in};
 ghost use Rattle.vx_rows.specs.ReadRows.{absent, all_absent, no_rows, no_rows_each};
 ghost use Rattle.vx_rows.specs.Builders.{builder_view, builders_view, pairs_view};
 
@@ -30,6 +30,14 @@ pub struct Builders {
     pub(crate) builders: Vec<(String, Builder)>,
 }
 
+impl Builders {
+    fn new(builders: Vec<(String, Builder)>) -> Builders
+        ensures { builders_view result ≡ pairs_view builders.items }
+    {
+        Builders { builders }
+    }
+}
+
 /// Columns of fields, without rows.
 #[cycle(beginning)]
 fn begin_fields(alloc: Global, fields: &[(String, DType)]) -> Result<Builders, AllocError>
@@ -40,7 +48,7 @@ fn begin_fields(alloc: Global, fields: &[(String, DType)]) -> Result<Builders, A
         let field = &fields[at];
         builders.push((field.0.clone()?, begin(alloc, &field.1)?))?;
     }
-    Ok(Builders { builders })
+    Ok(Builders::new(builders))
 }
 
 /// A column of a type, without rows. Only memory refuses.
@@ -98,14 +106,25 @@ fn push_absent(builder: &mut Builder) -> Result<(), AllocError>
 
 /// The columns of the rows of fields.
 #[cycle(finishing)]
+fn finish_all(
+    alloc: Global,
+    builders: Vec<(String, Builder)>,
+) -> Result<Vec<(String, Column)>, AllocError>
+    ensures { IfOk result (λ columns. columns_in columns.items ≡ pairs_view builders.items) }
+{
+    let mut columns = Vec::new(alloc);
+    for (name, builder) in builders {
+        columns.push((name, finish(alloc, builder)?))?;
+    }
+    Ok(columns)
+}
+
+/// The columns of the rows of a struct's fields.
+#[cycle(finishing)]
 fn finish_fields(alloc: Global, builders: Builders) -> Result<Columns, AllocError>
     ensures { IfOk result (λ columns. columns_view columns ≡ builders_view builders) }
 {
-    let mut columns = Vec::new(alloc);
-    for (name, builder) in builders.builders {
-        columns.push((name, finish(alloc, builder)?))?;
-    }
-    Ok(Columns::new(columns))
+    Ok(Columns::new(finish_all(alloc, builders.builders)?))
 }
 
 /// The column of the rows. Only memory refuses.
