@@ -22,3 +22,4 @@ pub mod BuilderLemmas
 pub mod DigitLemmas
 pub mod PlainTextLemmas
 pub mod BuildingLemmas
+pub mod ReadingLemmas

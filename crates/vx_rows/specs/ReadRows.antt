@@ -78,7 +78,7 @@ abbrev mutual
   pub values_in : Bool → FieldRows → List ℕ → Option (FieldRows × List ℕ)
   values_in first no_columns t = Some (no_columns, t)
   values_in first (column name c cs) t =
-      option_and_then (λ u. option_and_then (λ x. option_map (before_fields name x.0) (values_in false cs x.1)) (value_in c u)) (after (comma first) t)
+      option_and_then (λ x. option_map (before_fields name x.0) (values_in false cs x.1)) (option_and_then (λ u. value_in c u) (after (comma first) t))
 
 -- ---- lines
 

@@ -1,14 +1,14 @@
 //! Reads rows from text.
-ghost use Rattle.std.specs.Prelude.{◌≡◌, ◌<◌, ◌≤◌, true, length, Some, codes};
-ghost use Rattle.std.specs.Option.{option_map, option_and_then};
+ghost use Rattle.std.specs.Prelude.{◌≡◌, ◌+◌, ◌<◌, ◌≤◌, ℕ, List, ◌∷◌, true, length, take, drop};
+ghost use Rattle.std.specs.Option.{option_and_then};
 ghost use Rattle.vx_base.specs.Checks.{Gives, ◌lacking◌};
 ghost use Rattle.vx_data.specs.Dtype.{dtype_view};
 ghost use Rattle.vx_data.specs.Texts.{comma};
 ghost use Rattle.vx_data.specs.TextsRead.{FailsToRead as FailsToReadValue, after as after_front};
 ghost use Rattle.vx_data.specs.declared.text_error.TextError.TheVariants.{BadText};
-ghost use Rattle.vx_rows.specs.Rows.{column_view, no_columns};
+ghost use Rattle.vx_rows.specs.Rows.{Rows, FieldRows, column_view};
 ghost use Rattle.vx_rows.specs.Builders.{builder_view, builders_view, pairs_view};
-ghost use Rattle.vx_rows.specs.ReadRows.{FailsToRead, value_in, values_in, closed, line_in, rows_behind, lines_of, rows_of};
+ghost use Rattle.vx_rows.specs.ReadRows.{FailsToRead, value_in, values_in, line_in, rows_behind, lines_of, rows_of};
 
 use crate::builder::{Builder, Builders, begin, finish, push_absent_fields};
 use crate::flags::Flags;
@@ -39,23 +39,38 @@ fn expect_comma(is_first: bool, text: &[u8]) -> Result<&[u8], TextError>
 
 /// Adds the values of fields in front, and gives what follows them.
 #[cycle(reading_rows)]
+#[tactic(auto, using(crate::proofs::ReadingLemmas::value_steps))]
 fn read_fields<'a>(
     alloc: Global,
     builders: &mut Vec<(String, Builder)>,
     text: &'a [u8],
 ) -> Result<&'a [u8], TextError>
-    ensures { Gives FailsToReadValue (λ rest. (pairs_view builders.new.items, rest.now)) result
+    ensures { Gives {A = FieldRows × List ℕ} FailsToReadValue (λ rest. (pairs_view builders.new.items, rest.now)) result
         (BadText lacking values_in true (pairs_view builders.old.items) text.now) }
 {
     let mut rest = text;
     let mut is_first = true;
     for at in 0..builders.len() {
-        let value = expect_comma(is_first, rest)?;
         let builder = &mut builders[at];
-        rest = read_value(alloc, &mut builder.1, value)?;
+        rest = read_field(alloc, &mut builder.1, is_first, rest)?;
         is_first = false;
     }
     Ok(rest)
+}
+
+/// Adds the value of a field in front, behind a comma where it is not the first, and gives what follows it.
+#[cycle(reading_rows)]
+fn read_field<'a>(
+    alloc: Global,
+    builder: &mut Builder,
+    is_first: bool,
+    text: &'a [u8],
+) -> Result<&'a [u8], TextError>
+    ensures { Gives {A = Rows × List ℕ} FailsToReadValue (λ rest. (builder_view builder.new, rest.now)) result
+        (BadText lacking option_and_then (value_in (builder_view builder.old)) (after_front (comma is_first) text.now)) }
+{
+    let value = expect_comma(is_first, text)?;
+    read_value(alloc, builder, value)
 }
 
 /// Adds the values of a struct's fields in front, and gives what follows them.
@@ -65,7 +80,7 @@ fn read_struct<'a>(
     builders: &mut Builders,
     text: &'a [u8],
 ) -> Result<&'a [u8], TextError>
-    ensures { Gives FailsToReadValue (λ rest. (builders_view builders.new, rest.now)) result
+    ensures { Gives {A = FieldRows × List ℕ} FailsToReadValue (λ rest. (builders_view builders.new, rest.now)) result
         (BadText lacking values_in true (builders_view builders.old) text.now) }
 {
     read_fields(alloc, &mut builders.builders, text)
@@ -78,7 +93,7 @@ fn read_value<'a>(
     builder: &mut Builder,
     text: &'a [u8],
 ) -> Result<&'a [u8], TextError>
-    ensures { Gives FailsToReadValue (λ rest. (builder_view builder.new, rest.now)) result
+    ensures { Gives {A = Rows × List ℕ} FailsToReadValue (λ rest. (builder_view builder.new, rest.now)) result
         (BadText lacking value_in (builder_view builder.old) text.now) }
 {
     match builder {
