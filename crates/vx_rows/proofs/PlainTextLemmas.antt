@@ -11,25 +11,28 @@ use Rattle.vx_data.specs.TextsRead.{is_quote_byte, quote_length, quoted_in}
 use Rattle.vx_data.proofs.QuotedBack.{quoted_in_again}
 use Rattle.vx_rows.proofs.PrintedLemmas.{quoted_plain}
 
-first-of : (a b : Bool) → (a && b) ≡ true → a ≡ true
+pub first-of : (a b : Bool) → (a && b) ≡ true → a ≡ true
 first-of true b h = refl
 first-of false b h = h
 
-second-of : (a b : Bool) → (a && b) ≡ true → b ≡ true
+pub second-of : (a b : Bool) → (a && b) ≡ true → b ≡ true
 second-of true b h = h
 second-of false b h = cc
 
 both : (a b : Bool) → a ≡ true → b ≡ true → (a && b) ≡ true
 both a b x y = rw (x, y) refl
 
--- one byte more
-pub plain_more : (t : List ℕ) (n : ℕ) → n < length t → list_all is_quote_plain (take n t) ≡ true → is_quote_plain (slice_index t n) ≡ true → list_all is_quote_plain (take (n + 1) t) ≡ true
-plain_more [] n l h p = absurd (omega (arith, l))
-plain_more (c ∷ cs) zero l h p = both (is_quote_plain c) true p refl
-plain_more (c ∷ cs) (suc n) l h p =
+-- one byte more that meets a test
+pub taken_more : (f : ℕ → Bool) (t : List ℕ) (n : ℕ) → n < length t → list_all f (take n t) ≡ true → f (slice_index t n) ≡ true → list_all f (take (n + 1) t) ≡ true
+taken_more f [] n l h p = absurd (omega (arith, l))
+taken_more f (c ∷ cs) zero l h p = both (f c) true p refl
+taken_more f (c ∷ cs) (suc n) l h p =
     let e : suc n + 1 ≡ suc (n + 1) = omega arith in
-    let rest = plain_more cs n (omega (arith, l)) (second-of (is_quote_plain c) _ h) p in
-    ap (λ m. list_all is_quote_plain (take m (c ∷ cs))) e ∙ both (is_quote_plain c) _ (first-of (is_quote_plain c) _ h) rest
+    let rest = taken_more f cs n (omega (arith, l)) (second-of (f c) _ h) p in
+    ap (λ m. list_all f (take m (c ∷ cs))) e ∙ both (f c) _ (first-of (f c) _ h) rest
+
+pub plain_more : (t : List ℕ) (n : ℕ) → n < length t → list_all is_quote_plain (take n t) ≡ true → is_quote_plain (slice_index t n) ≡ true → list_all is_quote_plain (take (n + 1) t) ≡ true
+plain_more = taken_more is_quote_plain
 
 ascii-byte : (c : ℕ) → is_quote_plain c ≡ true → c < 128
 ascii-byte c h = grind (arith, nat_tests)

@@ -6,6 +6,7 @@ ghost use Rattle.vx_data.specs.Dtype.{dtype_view};
 ghost use Rattle.vx_data.specs.Texts.{comma};
 ghost use Rattle.vx_data.specs.TextsRead.{FailsToRead as FailsToReadValue, after as after_front};
 ghost use Rattle.vx_data.specs.declared.text_error.TextError.TheVariants.{BadText};
+ghost use Rattle.vx_rows.specs.declared.rows_error.RowsError.TheVariants.{BadLine};
 ghost use Rattle.vx_rows.specs.Rows.{Rows, FieldRows, column_view};
 ghost use Rattle.vx_rows.specs.Builders.{builder_view, builders_view, pairs_view};
 ghost use Rattle.vx_rows.specs.ReadRows.{FailsToRead, value_in, values_in, line_in, rows_behind, lines_of, rows_of};
@@ -114,8 +115,13 @@ fn read_value<'a>(
     }
 }
 
-/// The first line, and what follows its line feed.
-fn split_line(text: &[u8]) -> (&[u8], &[u8]) {
+/// The first line, and what follows its line feed, which may lack at the end.
+#[tactic(auto, using(crate::proofs::ReadingLemmas::line_steps))]
+fn split_line(text: &[u8]) -> (&[u8], &[u8])
+    requires { 0 < length text.now }
+    ensures value { lines_of text.now ≡ result.0.now ∷ lines_of result.1.now }
+    ensures shorter { length result.1.now < length text.now }
+{
     for at in 0..text.len() {
         if text[at] == b'\n' {
             return (&text[..at], &text[at + 1..]);
@@ -124,38 +130,38 @@ fn split_line(text: &[u8]) -> (&[u8], &[u8]) {
     text.split_at(text.len())
 }
 
-/// Adds the value that a line is.
-fn read_line(alloc: Global, builder: &mut Builder, line: &[u8]) -> Result<(), TextError>
-    ensures { Gives FailsToReadValue (λ _. builder_view builder.new) result
-        (BadText lacking line_in (builder_view builder.old) line.now) }
+/// Adds the value that a line of this number is. A line that is none is BadLine.
+fn read_line(
+    alloc: Global,
+    builder: &mut Builder,
+    line: &[u8],
+    number: u64,
+) -> Result<(), RowsError>
+    ensures { Gives {A = Rows} FailsToRead (λ _. builder_view builder.new) result
+        (BadLine number lacking line_in (builder_view builder.old) line.now) }
 {
-    let rest = read_value(alloc, builder, line)?;
+    let rest = match read_value(alloc, builder, line) {
+        Ok(rest) => rest,
+        Err(TextError::BadText) => return Err(RowsError::BadLine(number)),
+        Err(TextError::OutOfMemory) => return Err(RowsError::OutOfMemory),
+    };
     if !rest.is_empty() {
-        return Err(TextError::BadText);
+        return Err(RowsError::BadLine(number));
     }
     Ok(())
 }
 
-/// What a line's refusal is, where the line has this number.
-fn refusal(error: TextError, line: u64) -> RowsError {
-    match error {
-        TextError::BadText => RowsError::BadLine(line),
-        TextError::OutOfMemory => RowsError::OutOfMemory,
-    }
-}
-
 /// Adds the rows of lines.
+#[tactic(auto, using(crate::proofs::ReadingLemmas::row_steps))]
 fn read_lines(alloc: Global, builder: &mut Builder, text: &[u8]) -> Result<(), RowsError>
-    ensures { Gives FailsToRead (λ _. builder_view builder.new) result
+    ensures { Gives {A = Rows} FailsToRead (λ _. builder_view builder.new) result
         (rows_behind (builder_view builder.old) 0 (lines_of text.now)) }
 {
     let mut number = 0;
     let mut rest = text;
     while !rest.is_empty() {
         let (line, behind) = split_line(rest);
-        if let Err(error) = read_line(alloc, builder, line) {
-            return Err(refusal(error, number));
-        }
+        read_line(alloc, builder, line, number)?;
         number += 1;
         rest = behind;
     }

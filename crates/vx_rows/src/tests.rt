@@ -240,7 +240,13 @@ fn rows_come_back(rt: HostRuntime) -> Result<(), Fail> {
     assert!(rt; comes_back(alloc, "i64", "-9223372036854775808\n")?);
     assert!(rt; comes_back(alloc, "text?", "a.b\n%\n~\n%20x%C3%A9\n")?);
     assert!(rt; comes_back(alloc, "{}", "()\n()\n")?);
-    assert!(rt; comes_back(alloc, "{a:u8,b:{c:text?}?}?", "(1,(x))\n~\n(2,~)\n(3,(~))\n")?);
+    assert!(rt;
+        comes_back(
+            alloc,
+            "{a:u8,b:{c:text?}?}?",
+            "(1,(x))\n~\n(2,~)\n(3,(~))\n"
+        )?
+    );
     Ok(())
 }
 

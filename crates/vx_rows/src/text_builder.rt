@@ -44,11 +44,7 @@ impl Model for TextBuilder {
 }
 
 /// Adds a text and the place behind it. Where memory refuses, nothing changes.
-fn push_text(
-    bytes: &mut Vec<u8>,
-    places: &mut Vec<usize>,
-    value: &str,
-) -> Result<(), AllocError>
+fn push_text(bytes: &mut Vec<u8>, places: &mut Vec<usize>, value: &str) -> Result<(), AllocError>
     ensures bytes { OnOk result (bytes.new.items ≡ bytes.old.items ++ value.now) }
     ensures places { OnOk result (places.new.items ≡ places.old.items ++ length bytes.new.items ∷ []) }
     ensures err { OnErr result ((bytes.new.items ≡ bytes.old.items) × (places.new.items ≡ places.old.items)) }

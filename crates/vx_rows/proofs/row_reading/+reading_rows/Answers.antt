@@ -9,8 +9,8 @@ pub read_fields-loop-at-preserved : goal.read_fields-loop-at-preserved
 read_fields-loop-at-preserved t c = (
   search rules,
   values_more c.loop-at.is_first c.loop-at.builders.items c.loop-at.at c.index_mut-builder.result.now c.read_field.new.builder c.loop-at.rest.now c.in_ok-rest.rest.now (search rules) (search rules)
-  c.in_ok-rest.ensures
-  ∙ c.loop-at.invariant.1,
+      c.in_ok-rest.ensures
+      ∙ c.loop-at.invariant.1,
 )
 
 pub read_fields-returns : goal.read_fields-returns
