@@ -23,3 +23,5 @@ pub mod DigitLemmas
 pub mod PlainTextLemmas
 pub mod BuildingLemmas
 pub mod ReadingLemmas
+pub mod DecimalLemmas
+pub mod PrintedBackLemmas

@@ -73,7 +73,7 @@ pub ruleset value_steps = (values_more, value_fails, values_end, values_begin)
 abbrev pub is_other : ℕ → Bool
 is_other c = not (c == 10)
 
-other-test : (c : ℕ) → is_other c ≡ true → (c == 10) ≡ false
+pub other-test : (c : ℕ) → is_other c ≡ true → (c == 10) ≡ false
 other-test c h = grind (arith, nat_tests)
 
 feed-test : (c : ℕ) → c ≡ 10 → (c == 10) ≡ true

@@ -11,3 +11,4 @@ pub mod ReadValues
 pub mod ReadRows
 pub mod Kept
 pub mod Builders
+pub mod PrintedRows
