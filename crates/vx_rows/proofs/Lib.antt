@@ -25,3 +25,4 @@ pub mod BuildingLemmas
 pub mod ReadingLemmas
 pub mod DecimalLemmas
 pub mod PrintedBackLemmas
+pub mod ReadSoundLemmas

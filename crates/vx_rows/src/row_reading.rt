@@ -1,5 +1,5 @@
 //! Reads rows from text.
-ghost use Rattle.std.specs.Prelude.{◌≡◌, ◌+◌, ◌<◌, ◌≤◌, ℕ, List, ◌∷◌, true, length, take, drop};
+ghost use Rattle.std.specs.Prelude.{◌≡◌, ◌+◌, ◌<◌, ◌≤◌, ℕ, List, ◌∷◌, [], true, length, IfOk};
 ghost use Rattle.std.specs.Option.{option_and_then};
 ghost use Rattle.vx_base.specs.Checks.{Gives, ◌lacking◌};
 ghost use Rattle.vx_data.specs.Dtype.{dtype_view};
@@ -7,22 +7,23 @@ ghost use Rattle.vx_data.specs.Texts.{comma};
 ghost use Rattle.vx_data.specs.TextsRead.{FailsToRead as FailsToReadValue, after as after_front};
 ghost use Rattle.vx_data.specs.declared.text_error.TextError.TheVariants.{BadText};
 ghost use Rattle.vx_rows.specs.declared.rows_error.RowsError.TheVariants.{BadLine};
-ghost use Rattle.vx_rows.specs.Rows.{Rows, FieldRows, column_view};
+ghost use Rattle.vx_rows.specs.Rows.{Rows, FieldRows, column_view, dtype_of, IsColumn};
 ghost use Rattle.vx_rows.specs.Builders.{builder_view, builders_view, pairs_view};
 ghost use Rattle.vx_rows.specs.ReadRows.{FailsToRead, value_in, values_in, line_in, rows_behind, lines_of, rows_of};
 
 use crate::builder::{Builder, Builders, begin, finish, push_absent_fields};
 use crate::flags::Flags;
-use crate::value_reading::read_null;
+use crate::value_reading::{after_byte, read_null};
 use crate::{Column, RowsError};
 use std::alloc::Global;
-use vx_data::{DType, TextError, after};
+use vx_data::{DType, TextError};
 
-/// What follows a front, which must come.
-fn expect<'a>(text: &'a [u8], front: &[u8]) -> Result<&'a [u8], TextError>
-    ensures { Gives FailsToReadValue (λ rest. rest.now) result (BadText lacking after_front front.now text.now) }
+/// What follows a byte, which must come.
+#[inline(always)]
+fn expect(text: &[u8], byte: u8) -> Result<&[u8], TextError>
+    ensures { Gives FailsToReadValue (λ rest. rest.now) result (BadText lacking after_front (byte ∷ []) text.now) }
 {
-    match after(text, front) {
+    match after_byte(text, byte) {
         Some(rest) => Ok(rest),
         None => Err(TextError::BadText),
     }
@@ -35,7 +36,7 @@ fn expect_comma(is_first: bool, text: &[u8]) -> Result<&[u8], TextError>
     if is_first {
         return Ok(text);
     }
-    expect(text, b",")
+    expect(text, b',')
 }
 
 /// Adds the values of fields in front, and gives what follows them.
@@ -107,10 +108,10 @@ fn read_value<'a>(
                 push_absent_fields(builders)?;
                 return Ok(rest);
             }
-            let inside = expect(text, b"(")?;
+            let inside = expect(text, b'(')?;
             rows.push(true)?;
             let behind = read_struct(alloc, builders, inside)?;
-            expect(behind, b")")
+            expect(behind, b')')
         }
     }
 }
@@ -170,8 +171,11 @@ fn read_lines(alloc: Global, builder: &mut Builder, text: &[u8]) -> Result<(), R
 
 /// The column of a type whose rows a text spells, one line each, as `push_rows` prints them. The last line feed
 /// may lack. The first line, from 0, that is no value of the type is BadLine.
+#[tactic(auto, using(crate::proofs::ReadSoundLemmas::read_sound))]
 pub fn read_rows(alloc: Global, dtype: &DType, text: &str) -> Result<Column, RowsError>
-    ensures { Gives FailsToRead column_view result (rows_of (dtype_view dtype.now) text.now) }
+    ensures value { Gives FailsToRead column_view result (rows_of (dtype_view dtype.now) text.now) }
+    ensures typed { IfOk result (λ c. dtype_of (column_view c) ≡ dtype_view dtype.now) }
+    ensures sound { IfOk result (λ c. IsColumn (length (lines_of text.now)) (column_view c)) }
 {
     let mut builder = begin(alloc, dtype)?;
     read_lines(alloc, &mut builder, text.as_bytes())?;

@@ -1,9 +1,9 @@
 //! Reads the texts of values.
-ghost use Rattle.std.specs.Prelude.{◌≡◌, ◌+◌, ◌*◌, ◌-◌, ◌<◌, ◌≤◌, ◌^◌, true, false, Some, IfSome, length, take, slice_index};
+ghost use Rattle.std.specs.Prelude.{◌≡◌, ◌∷◌, [], ◌+◌, ◌*◌, ◌-◌, ◌<◌, ◌≤◌, ◌^◌, true, false, Some, IfSome, length, take, slice_index};
 ghost use Rattle.std.specs.List.{list_all};
 ghost use Rattle.std.specs.Option.{option_map, option_and_then};
 ghost use Rattle.vx_data.specs.Texts.{is_quote_plain};
-ghost use Rattle.vx_data.specs.TextsRead.{quoted_in};
+ghost use Rattle.vx_data.specs.TextsRead.{quoted_in, after as after_front};
 ghost use Rattle.vx_rows.specs.Written.{is_within as within};
 ghost use Rattle.vx_rows.specs.ReadValues.{null_in, truth_in, is_digit as is_decimal, digits_in, natural_in, integer_in, narrow, narrowed, below_zero, within_range, number_in};
 ghost use Rattle.vx_data.specs.declared.ptype.PType.{PType};
@@ -11,11 +11,26 @@ ghost use Rattle.vx_data.specs.declared.ptype.PType.{PType};
 use crate::text_column::text_of;
 use vx_data::{PType, after};
 
+/// What follows a byte, where it comes first.
+#[inline(always)]
+pub fn after_byte(text: &[u8], byte: u8) -> Option<&[u8]>
+    ensures { option_map (λ rest. rest.now) result ≡ after_front (byte ∷ []) text.now }
+{
+    match text.split_first() {
+        Some((first, rest)) if *first == byte => Some(rest),
+        _ => None,
+    }
+}
+
 /// What follows `~`, where a row may be null.
+#[inline(always)]
 pub fn read_null(may_be_null: bool, text: &[u8]) -> Option<&[u8]>
     ensures { option_map (λ rest. rest.now) result ≡ null_in may_be_null text.now }
 {
-    if may_be_null { after(text, b"~") } else { None }
+    if !may_be_null {
+        return None;
+    }
+    after_byte(text, b'~')
 }
 
 /// A truth value, and what follows.
@@ -111,7 +126,7 @@ fn read_negative(text: &[u8]) -> Option<(i128, &[u8])>
 fn read_integer(text: &[u8]) -> Option<(i128, &[u8])>
     ensures { (p : PType) → option_and_then (within_range p) (option_map (λ x. (x.0, x.1.now)) result) ≡ number_in p text.now }
 {
-    if let Some(behind) = after(text, b"-") {
+    if let Some(behind) = after_byte(text, b'-') {
         return read_negative(behind);
     }
     let (number, rest) = read_natural(text)?;
