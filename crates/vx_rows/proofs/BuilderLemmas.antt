@@ -1,5 +1,5 @@
 -- Columns that grow by a row.
-use Rattle.std.proofs.Common.{◌≡◌, ℕ, ℤ, ◌+◌, ◌*◌, Bool, true, cond, List, [], ◌∷◌, ◌++◌, length, Option, Some, None, is_some, refl, ap, sym, ◌∙◌, subst, arith}
+use Rattle.std.proofs.Common.{◌≡◌, ℕ, ℤ, ◌+◌, ◌*◌, Bool, true, cond, List, [], ◌∷◌, ◌++◌, length, Option, Some, None, is_some, ap, sym, ◌∙◌, subst, arith}
 use Rattle.std.specs.Prelude.{slice_index, ◌||◌, not, IfSome}
 use Rattle.std.specs.Str.{IsUtf8}
 use Rattle.vx_data.specs.declared.ptype.PType.{PType}
@@ -8,7 +8,7 @@ use Rattle.vx_rows.specs.Columns.{Bools, Ints, Texts, Structs, bool_row, is_fals
 use Rattle.vx_rows.specs.Written.{is_within, cell}
 use Rattle.vx_rows.specs.ReadRows.{more_bools, more_ints, more_texts, more_structs}
 use Rattle.vx_rows.specs.Kept.{kept}
-use Rattle.vx_rows.proofs.GrowingLemmas.{one-longer, bools_grow, bools_stay_clear, ints_grow, ints_stay_clear, ints_stay_long, places-then, place_last, ranges_grow, texts_grow, text_rows_grow}
+use Rattle.vx_rows.proofs.GrowingLemmas.{one-longer, bools_grow, bools_stay_clear, ints_grow, ints_stay_clear, ints_stay_long, place_last, ranges_grow, texts_grow, text_rows_grow}
 
 -- ---- truth values
 

@@ -1,13 +1,12 @@
 -- Columns of fields that grow, one after the other.
-use Rattle.std.proofs.Common.{◌≡◌, ℕ, ◌+◌, ◌<◌, ◌≤◌, Bool, true, false, List, [], ◌∷◌, ◌++◌, length, get_or, set, take, drop, Option, Some, None, refl, ap, sym, ◌∙◌, add-one, drop-cons, arith}
+use Rattle.std.proofs.Common.{◌≡◌, ℕ, ◌+◌, ◌<◌, ◌≤◌, List, [], ◌∷◌, ◌++◌, length, get_or, set, take, drop, refl, ap, sym, ◌∙◌, add-one, drop-cons, arith}
 use Rattle.std.specs.Prelude.{String, string_bytes}
 use Rattle.std.specs.Global.{Global}
 use Rattle.std.proofs.lemmas.List.{take_more_set, take_all, drop-set-lt, drop_all}
 use Rattle.vx_data.specs.declared.dtype.DType.{DType}
 use Rattle.vx_data.specs.Dtype.{dtype_view, pairs_view as types_view}
 use Rattle.vx_rows.specs.declared.builder.Builder.{Builder}
-use Rattle.vx_rows.specs.declared.column.Column.{Column}
-use Rattle.vx_rows.specs.Rows.{Rows, FieldRows, no_columns, column, columns_of, column_view, viewed}
+use Rattle.vx_rows.specs.Rows.{Rows, FieldRows, no_columns, column}
 use Rattle.vx_rows.specs.Trees.{before}
 use Rattle.vx_rows.specs.ReadRows.{absent, all_absent, no_rows, no_rows_each}
 use Rattle.vx_rows.specs.Builders.{builder_view, built, pairs_view}

@@ -1,6 +1,6 @@
 -- Rows that are put behind others.
 use Rattle.std.proofs.Common.{◌≡◌, ℕ, ℤ, zero, suc, ◌+◌, ◌*◌, ◌-◌, ◌<◌, ◌≤◌, Bool, true, false, cond, List, [], ◌∷◌, ◌++◌, length, take, drop, Option, Some, None, is_some, refl, ap, sym, ◌∙◌, subst, arith, length-append}
-use Rattle.std.specs.Prelude.{slice_index, slice_index_or, slice_range, ◌||◌, ◌&&◌, ◌==◌, not, IfSome}
+use Rattle.std.specs.Prelude.{slice_index, slice_index_or, slice_range, ◌||◌, ◌==◌, not, IfSome}
 use Rattle.std.specs.List.{list_all}
 use Rattle.std.specs.Str.{IsUtf8}
 use Rattle.std.specs.Int.{from_le_bytes}
@@ -12,7 +12,7 @@ use Rattle.vx_rows.specs.Columns.{bool_row, is_false_row, int_row, is_clear, raw
 use Rattle.vx_rows.specs.Written.{is_within, cell}
 use Rattle.vx_rows.proofs.SpanLemmas.{span_push, span_same, every_all, every_holds}
 use Rattle.vx_rows.proofs.IntLemmas.{place_inside}
-use Rattle.vx_rows.proofs.CellLemmas.{take_front, drop_front}
+use Rattle.vx_rows.proofs.CellLemmas.{drop_front}
 use Rattle.vx_rows.proofs.ValueLemmas.{within-at, clear-at, cell-long}
 
 -- ---- a run of values that grows

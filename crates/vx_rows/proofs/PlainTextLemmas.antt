@@ -1,12 +1,12 @@
 -- Quoted text whose bytes all stand for themselves.
-use Rattle.std.proofs.Common.{◌≡◌, ℕ, zero, suc, ◌+◌, ◌<◌, ◌≤◌, Bool, true, false, cond, List, [], ◌∷◌, ◌++◌, length, take, drop, Option, Some, None, refl, ap, sym, ◌∙◌, subst, arith}
-use Rattle.std.specs.Prelude.{slice_index, ◌&&◌, ◌||◌, ◌==◌, IsAscii}
+use Rattle.std.proofs.Common.{◌≡◌, ℕ, zero, suc, ◌+◌, ◌<◌, ◌≤◌, Bool, true, false, List, [], ◌∷◌, ◌++◌, length, take, drop, Some, refl, ap, sym, ◌∙◌, arith}
+use Rattle.std.specs.Prelude.{slice_index, ◌&&◌, IsAscii}
 use Rattle.std.specs.List.{list_all}
-use Rattle.std.specs.Str.{is_utf8, IsUtf8}
+use Rattle.std.specs.Str.{IsUtf8}
 use Rattle.std.proofs.lemmas.Str.{IsUtf8-from_ascii, is_utf8-from_IsUtf8}
 use Rattle.std.proofs.lemmas.List.{take-append-drop}
 use Rattle.std.proofs.lemmas.Bool.Decides.{nat_tests}
-use Rattle.vx_data.specs.Texts.{is_quote_plain, quoted}
+use Rattle.vx_data.specs.Texts.{is_quote_plain}
 use Rattle.vx_data.specs.TextsRead.{is_quote_byte, quote_length, quoted_in}
 use Rattle.vx_data.proofs.QuotedBack.{quoted_in_again}
 use Rattle.vx_rows.proofs.PrintedLemmas.{quoted_plain}

@@ -1,24 +1,21 @@
 -- Printed rows are read again.
-use Rattle.std.proofs.Common.{◌≡◌, ℕ, ℤ, zero, suc, pos, ◌+◌, ◌-◌, ◌/◌, ◌%◌, ◌<◌, ◌≤◌, Bool, true, false, cond, List, [], ◌∷◌, ◌++◌, length, take, drop, get_or, Option, Some, None, is_some, Ok, Err, refl, ap, sym, ◌∙◌, subst, arith, append_assoc}
+use Rattle.std.proofs.Common.{◌≡◌, ℕ, ℤ, zero, suc, pos, ◌+◌, ◌/◌, ◌%◌, ◌<◌, Bool, true, false, cond, List, [], ◌∷◌, ◌++◌, length, take, Option, Some, None, is_some, Ok, refl, ap, sym, ◌∙◌, subst, arith, append_assoc}
 use Rattle.std.specs.Prelude.{◌==◌, ◌&&◌, ◌||◌, not, slice_index_or, codes, IfSome}
-use Rattle.std.specs.List.{flat_map, list_all, All}
-use Rattle.std.specs.Str.{IsUtf8, is_utf8}
+use Rattle.std.specs.List.{flat_map, list_all}
+use Rattle.std.specs.Str.{IsUtf8}
 use Rattle.std.specs.Fmt.{signed_decimal}
 use Rattle.std.specs.Option.{option_map, option_and_then}
 use Rattle.std.proofs.lemmas.Str.{is_utf8-from_IsUtf8}
 use Rattle.std.proofs.lemmas.List.{take_more, take_all}
 use Rattle.std.proofs.lemmas.Bool.Decides.{nat_tests}
-use Rattle.vx_base.specs.Checks.{◌>>=◌, ◌lacking◌}
-use Rattle.vx_data.specs.declared.ptype.PType.{PType}
 use Rattle.vx_data.specs.Texts.{is_quote_plain, upper_hex_digit, quoted_byte, quoted, comma}
 use Rattle.vx_data.specs.TextsRead.{after, is_quote_byte, quote_length, quoted_in}
 use Rattle.vx_data.proofs.QuotedBack.{quoted_in_again}
-use Rattle.vx_rows.specs.declared.rows_error.RowsError.TheVariants.{BadLine}
 use Rattle.vx_rows.specs.Columns.{Bools, Ints, Texts, Structs, may_hold, are_there}
 use Rattle.vx_rows.specs.Written.{is_within}
 use Rattle.vx_rows.specs.Rows.{Rows, FieldRows, bools, ints, texts, structs, no_columns, column, rows_len, dtype_of, types_of, IsColumn, AreColumns}
-use Rattle.vx_rows.specs.ValueTexts.{optional, bool_text, value_text, fields_text, line_text, lines_from, lines_text}
-use Rattle.vx_rows.specs.ReadValues.{null_in, unless_null, optional_in, truth_in, is_digit, digits_in, number_in}
+use Rattle.vx_rows.specs.ValueTexts.{optional, bool_text, value_text, fields_text, lines_from, lines_text}
+use Rattle.vx_rows.specs.ReadValues.{null_in, optional_in, truth_in, is_digit, number_in}
 use Rattle.vx_rows.specs.ReadRows.{null_or, absent, all_absent, more_structs, null_struct, closed, struct_unless, before_fields, value_in, values_in, alone, line_in, lines_of, rows_behind, no_rows, no_rows_each, rows_of}
 use Rattle.vx_rows.specs.PrintedRows.{IsAbsent, AreAbsent, HidesNothing, HideNothing}
 use Rattle.vx_rows.proofs.DigitLemmas.{past_digits, no_digits}

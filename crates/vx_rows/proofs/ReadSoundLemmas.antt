@@ -1,9 +1,9 @@
 -- What is read is a column of its type.
-use Rattle.std.proofs.Common.{◌≡◌, ℕ, ℤ, zero, suc, pos, ◌+◌, ◌<◌, Bool, true, false, cond, List, [], ◌∷◌, ◌++◌, length, Option, Some, None, is_some, Result, Ok, Err, refl, ap, sym, ◌∙◌, subst, arith}
+use Rattle.std.proofs.Common.{◌≡◌, ℕ, ℤ, suc, pos, ◌+◌, Bool, true, false, cond, List, [], ◌∷◌, ◌++◌, length, Option, Some, None, is_some, Result, Ok, Err, refl, ap, ◌∙◌, subst, arith}
 use Rattle.std.specs.Prelude.{◌||◌, ◌==◌, not, IfSome, IfOk}
-use Rattle.std.specs.List.{list_all, All}
-use Rattle.std.specs.Str.{IsUtf8, is_utf8}
-use Rattle.std.specs.Option.{option_map, option_and_then, option_or}
+use Rattle.std.specs.List.{list_all}
+use Rattle.std.specs.Str.{IsUtf8}
+use Rattle.std.specs.Option.{option_map, option_and_then}
 use Rattle.std.proofs.lemmas.Str.{IsUtf8-from_is_utf8, IsUtf8-nil}
 use Rattle.std.proofs.lemmas.List.Elements.{All-nil, All-push}
 use Rattle.vx_base.specs.Checks.{◌>>=◌, ◌lacking◌}
@@ -15,7 +15,7 @@ use Rattle.vx_data.specs.TextsRead.{after, quoted_in}
 use Rattle.vx_data.proofs.QuotedBack.{quoted_in_only}
 use Rattle.vx_rows.specs.declared.rows_error.RowsError.{RowsError}
 use Rattle.vx_rows.specs.declared.rows_error.RowsError.TheVariants.{BadLine}
-use Rattle.vx_rows.specs.Columns.{Bools, Ints, Texts, Structs, may_hold, are_there}
+use Rattle.vx_rows.specs.Columns.{Structs, may_hold, are_there}
 use Rattle.vx_rows.specs.Written.{is_within}
 use Rattle.vx_rows.specs.Rows.{Rows, FieldRows, bools, ints, texts, structs, no_columns, column, dtype_of, types_of, IsColumn, AreColumns}
 use Rattle.vx_rows.specs.ReadValues.{null_in, unless_null, optional_in, truth_in, integer_in, within_range, number_in}

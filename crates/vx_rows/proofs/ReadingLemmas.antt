@@ -1,20 +1,17 @@
 -- The values of fields, one after the other, and lines.
-use Rattle.std.proofs.Common.{◌≡◌, ℕ, zero, suc, ◌+◌, ◌-◌, ◌<◌, ◌≤◌, Bool, true, false, cond, List, [], ◌∷◌, ◌++◌, length, get_or, set, take, drop, Option, Some, None, Result, Ok, Err, refl, ap, sym, ◌∙◌, add-one, drop-cons, arith}
-use Rattle.std.specs.Prelude.{String, string_bytes, slice_index, ◌==◌, not}
+use Rattle.std.proofs.Common.{◌≡◌, ℕ, zero, suc, ◌+◌, ◌-◌, ◌<◌, ◌≤◌, Bool, true, false, List, [], ◌∷◌, ◌++◌, length, get_or, set, take, drop, Option, Some, None, Ok, Err, refl, ap, sym, ◌∙◌, add-one, drop-cons, arith}
+use Rattle.std.specs.Prelude.{string_bytes, slice_index, ◌==◌, not}
 use Rattle.std.specs.List.{list_all}
 use Rattle.std.proofs.lemmas.Bool.Decides.{nat_tests}
-use Rattle.std.specs.Global.{Global}
 use Rattle.std.specs.Option.{option_map, option_and_then}
 use Rattle.std.proofs.lemmas.List.{take_more_set, take_all, drop-set-lt, drop_all, length-drop}
-use Rattle.vx_base.specs.Checks.{◌>>=◌, ◌lacking◌}
-use Rattle.vx_data.specs.declared.text_error.TextError.{TextError}
-use Rattle.vx_data.specs.declared.text_error.TextError.TheVariants.{BadText, OutOfMemory}
+use Rattle.vx_base.specs.Checks.{◌lacking◌}
+use Rattle.vx_data.specs.declared.text_error.TextError.TheVariants.{BadText}
 use Rattle.vx_data.specs.Texts.{comma}
 use Rattle.vx_data.specs.TextsRead.{after}
 use Rattle.vx_rows.specs.declared.builder.Builder.{Builder}
-use Rattle.vx_rows.specs.declared.rows_error.RowsError.{RowsError}
 use Rattle.vx_rows.specs.declared.rows_error.RowsError.TheVariants.{BadLine}
-use Rattle.vx_rows.specs.Rows.{Rows, FieldRows, no_columns, column}
+use Rattle.vx_rows.specs.Rows.{Rows, FieldRows}
 use Rattle.vx_rows.specs.Trees.{before}
 use Rattle.vx_rows.specs.ReadRows.{value_in, values_in, before_fields, line_in, with_first, lines_of, rows_behind}
 use Rattle.vx_rows.specs.Builders.{builder_view, built, pairs_view}

@@ -1,5 +1,5 @@
 -- Columns whose printed rows are read as the same column.
-use Rattle.std.specs.Prelude.{◌≡◌, ℕ, pos, ◌<◌, Bool, true, false, not, List, [], length, slice_index_or, None}
+use Rattle.std.specs.Prelude.{◌≡◌, ℕ, pos, ◌<◌, true, false, not, [], length, slice_index_or, None}
 use Rattle.vx_rows.specs.Rows.{Rows, FieldRows, bools, ints, texts, structs, no_columns, column}
 use Rattle.vx_rows.specs.ReadRows.{null_or}
 

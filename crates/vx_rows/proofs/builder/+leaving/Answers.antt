@@ -1,4 +1,4 @@
-use Rattle.std.proofs.Common.{◌≡◌, ◌≤◌, ◌∙◌, length, sym, rules, arith}
+use Rattle.std.proofs.Common.{◌≤◌, ◌∙◌, length, sym, rules}
 use Rattle.vx_rows.proofs.BuildingLemmas.{absent_more, absent_end}
 use Rattle.vx_rows.proofs.builder.+leaving.Goals as goal
 

@@ -1,4 +1,4 @@
-use Rattle.std.proofs.Common.{◌≡◌, ◌≤◌, ◌∙◌, List, ℕ, Option, length, sym, ap, rules, arith}
+use Rattle.std.proofs.Common.{◌≤◌, ◌∙◌, List, ℕ, Option, length, sym, ap, rules}
 use Rattle.vx_base.specs.Checks.{◌lacking◌}
 use Rattle.vx_data.specs.declared.text_error.TextError.TheVariants.{BadText}
 use Rattle.vx_rows.specs.Rows.{FieldRows}
