@@ -12,11 +12,11 @@ use Rattle.vx_rows.specs.ReadValues.{is_digit, digits_in, natural_in, number_in}
 use Rattle.vx_rows.proofs.DigitLemmas.{next_digit}
 use Rattle.vx_rows.proofs.ReadingLemmas.{is_other}
 
-tens : ℕ → ℕ
+unfoldable pub tens : ℕ → ℕ
 tens zero = 1
 tens (suc k) = 10 * tens k
 
-onto-append : (k n : ℕ) (acc t : List ℕ) → digits_onto k 10 false n acc ++ t ≡ digits_onto k 10 false n (acc ++ t)
+pub onto-append : (k n : ℕ) (acc t : List ℕ) → digits_onto k 10 false n acc ++ t ≡ digits_onto k 10 false n (acc ++ t)
 onto-append zero n acc t = refl
 onto-append (suc k) n acc t = step (n / 10 == 0) (onto-append k (n / 10) (digit_glyph false (n % 10) ∷ acc) t)
   where
@@ -26,7 +26,7 @@ onto-append (suc k) n acc t = step (n / 10 == 0) (onto-append k (n / 10) (digit_
     step true h = refl
     step false h = h
 
-glyph : (d : ℕ) → d < 10 → digit_glyph false d ≡ 48 + d
+pub glyph : (d : ℕ) → d < 10 → digit_glyph false d ≡ 48 + d
 glyph d h = grind (arith, nat_tests)
 
 digit-test : (d : ℕ) → d < 10 → is_digit (48 + d) ≡ true
@@ -138,7 +138,7 @@ pub signed_line : (z : ℤ) → list_all is_other (signed_decimal z) ≡ true
 signed_line (pos n) = decimal-line n
 signed_line (negsuc n) = decimal-line (suc n)
 
-small-above : (p : PType) (n : ℕ) → is_within p (pos n) ≡ true → n < 2 ^ 64
+pub small-above : (p : PType) (n : ℕ) → is_within p (pos n) ≡ true → n < 2 ^ 64
 small-above U8 n h = grind (arith, nat_tests)
 small-above U16 n h = grind (arith, nat_tests)
 small-above U32 n h = grind (arith, nat_tests)
@@ -148,7 +148,7 @@ small-above I16 n h = grind (arith, nat_tests)
 small-above I32 n h = grind (arith, nat_tests)
 small-above I64 n h = grind (arith, nat_tests)
 
-small-below : (p : PType) (n : ℕ) → is_within p (negsuc n) ≡ true → suc n < 2 ^ 64
+pub small-below : (p : PType) (n : ℕ) → is_within p (negsuc n) ≡ true → suc n < 2 ^ 64
 small-below U8 n h = cc
 small-below U16 n h = cc
 small-below U32 n h = cc

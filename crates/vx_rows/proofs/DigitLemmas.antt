@@ -25,7 +25,7 @@ grown-step n m c cs after true h k = omega (arith, h, k)
 grown-step n m c cs after false h k = omega arith
 
 -- digits only make a number greater
-grown : (n : ℕ) (t : List ℕ) → n ≤ (digits_in n t).0
+pub grown : (n : ℕ) (t : List ℕ) → n ≤ (digits_in n t).0
 unfolding digits_in
 grown n [] = omega arith
 grown n (c ∷ cs) = grown-step n (10 * n + (c - 48)) c cs (digits_in (10 * n + (c - 48)) cs) (is_digit c) (omega arith) (grown (10 * n + (c - 48)) cs)

@@ -26,3 +26,4 @@ pub mod ReadingLemmas
 pub mod DecimalLemmas
 pub mod PrintedBackLemmas
 pub mod ReadSoundLemmas
+pub mod ReadOnlyLemmas

@@ -336,7 +336,7 @@ rows-again n k (suc m) c e h hidden =
     rw (line-split (value_text c k) (lines_from c (k + 1) m) (value-line c k), line-again n k c less h hidden) (rows-again n (k + 1) m c (omega (arith, e)) h hidden)
 
 mutual
-  length-of : (n : ℕ) (c : Rows) → IsColumn n c → rows_len c ≡ n
+  pub length-of : (n : ℕ) (c : Rows) → IsColumn n c → rows_len c ≡ n
   length-of n (bools c) h = h.0
   length-of n (ints c) h = h.0
   length-of n (texts c) h = h.0

@@ -24,11 +24,11 @@ use Rattle.vx_rows.proofs.GrowingLemmas.{one-longer, one_more_there}
 
 -- ---- what holds of a value that is read
 
-if-map : {A B : Type 0} (f : A → B) (P : A → Type 0) (Q : B → Type 0) (o : Option A) → IfSome o P → ((x : A) → P x → Q (f x)) → IfSome (option_map f o) Q
+pub if-map : {A B : Type 0} (f : A → B) (P : A → Type 0) (Q : B → Type 0) (o : Option A) → IfSome o P → ((x : A) → P x → Q (f x)) → IfSome (option_map f o) Q
 if-map f P Q None h k = tt
 if-map f P Q (Some x) h k = k x h
 
-if-then : {A B : Type 0} (f : A → Option B) (P : A → Type 0) (Q : B → Type 0) (o : Option A) → IfSome o P → ((x : A) → P x → IfSome (f x) Q) → IfSome (option_and_then f o) Q
+pub if-then : {A B : Type 0} (f : A → Option B) (P : A → Type 0) (Q : B → Type 0) (o : Option A) → IfSome o P → ((x : A) → P x → IfSome (f x) Q) → IfSome (option_and_then f o) Q
 if-then f P Q None h k = tt
 if-then f P Q (Some x) h k = k x h
 
@@ -187,7 +187,7 @@ alone-typed x Q h = step (length x.1 == 0)
     step true = h
     step false = tt
 
-line-typed : (n : ℕ) (c : Rows) (line : List ℕ) → IsColumn n c → IfSome (line_in c line) (λ d. IsTyped (n + 1) (dtype_of c) d)
+pub line-typed : (n : ℕ) (c : Rows) (line : List ℕ) → IsColumn n c → IfSome (line_in c line) (λ d. IsTyped (n + 1) (dtype_of c) d)
 line-typed n c line h =
     if-then alone (λ (x : Rows × List ℕ). IsTyped (n + 1) (dtype_of c) x.0) _ (value_in c line) (value-typed n c line h) (λ x k. alone-typed x (IsTyped (n + 1) (dtype_of c)) k)
 
@@ -209,7 +209,7 @@ lines-typed n number c (line ∷ lines) h =
     next-typed n number c lines (line_in c line) (line-typed n c line h) (λ d k. lines-typed (n + 1) (number + 1) d lines k)
 
 mutual
-  empty-typed : (d : Dtype) → IsTyped 0 d (no_rows d)
+  pub empty-typed : (d : Dtype) → IsTyped 0 d (no_rows d)
   empty-typed (bool nullable) = ((refl, or-true nullable), refl)
   empty-typed (int ptype nullable) = ((refl, or-true nullable, All-nil (λ (row : Option ℤ). IfSome row (λ value. is_within ptype value ≡ true))), refl)
   empty-typed (text nullable) = ((refl, or-true nullable, All-nil (λ (row : Option (List ℕ)). IfSome row IsUtf8)), refl)

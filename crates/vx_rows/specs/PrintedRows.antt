@@ -1,5 +1,5 @@
 -- Columns whose printed rows are read as the same column.
-use Rattle.std.specs.Prelude.{◌≡◌, ℕ, pos, ◌<◌, true, false, not, [], length, slice_index_or, None}
+use Rattle.std.specs.Prelude.{◌≡◌, ℕ, pos, ◌<◌, true, false, not, List, [], length, slice_index_or, None, ◌++◌, codes}
 use Rattle.vx_rows.specs.Rows.{Rows, FieldRows, bools, ints, texts, structs, no_columns, column}
 use Rattle.vx_rows.specs.ReadRows.{null_or}
 
@@ -26,3 +26,7 @@ abbrev mutual
   pub HideNothing : FieldRows → Type 0
   HideNothing no_columns = Unit {0}
   HideNothing (column name c cs) = HidesNothing c × HideNothing cs
+
+-- a line and its line feed
+abbrev pub fed : List ℕ → List ℕ
+fed line = line ++ codes "\n"
