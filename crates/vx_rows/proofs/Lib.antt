@@ -17,3 +17,13 @@ pub mod TextBackLemmas
 pub mod TreeBackLemmas
 pub mod PrintedLemmas
 pub mod SoundLemmas
+pub mod GrowingLemmas
+pub mod BuilderLemmas
+pub mod DigitLemmas
+pub mod PlainTextLemmas
+pub mod BuildingLemmas
+pub mod ReadingLemmas
+pub mod DecimalLemmas
+pub mod PrintedBackLemmas
+pub mod ReadSoundLemmas
+pub mod ReadOnlyLemmas

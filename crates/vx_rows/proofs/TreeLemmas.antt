@@ -14,7 +14,7 @@ use Rattle.vx_rows.specs.Arrays.{Found, Fails}
 use Rattle.vx_rows.specs.Rows.{Rows, FieldRows, column, no_columns, columns_of, column_view, viewed, pairs_view}
 use Rattle.vx_rows.specs.Trees.{column_at, columns_at, behind, before, type_size, fields_size}
 
-next : (fs : List (String Global × DType)) (i : ℕ) (f : String Global × DType) → i < length fs → f ≡ get_or fs i f → drop i fs ≡ f ∷ drop (i + 1) fs
+pub next : (fs : List (String Global × DType)) (i : ℕ) (f : String Global × DType) → i < length fs → f ≡ get_or fs i f → drop i fs ≡ f ∷ drop (i + 1) fs
 next fs i f lt is = rw (add-one, drop-cons fs i f, ← is) refl
 
 -- a field is no larger than all of them
@@ -33,11 +33,11 @@ pub next_column : (kinds : List ArrayKind) (fs : List (String Global × DType)) 
     ≡ (column_at kinds (dtype_view f.1) n b at >>= λ c. columns_at kinds (types_view (drop (i + 1) fs)) n b c.1 >>= λ cs. Ok (column (string_bytes f.0) c.0 cs.0, cs.1))
 next_column kinds fs i f n b at lt is = ap (λ xs. columns_at kinds (types_view xs) n b at) (next fs i f lt is)
 
-before-more : (made : List (String Global × Rows)) (x : String Global × Rows) (cs : FieldRows) → before (made ++ x ∷ []) cs ≡ before made (column (string_bytes x.0) x.1 cs)
+pub before-more : (made : List (String Global × Rows)) (x : String Global × Rows) (cs : FieldRows) → before (made ++ x ∷ []) cs ≡ before made (column (string_bytes x.0) x.1 cs)
 before-more [] x cs = refl
 before-more (y ∷ made) x cs = ap (column (string_bytes y.0) y.1) (before-more made x cs)
 
-before-none : (made : List (String Global × Rows)) → before made no_columns ≡ columns_of made
+pub before-none : (made : List (String Global × Rows)) → before made no_columns ≡ columns_of made
 before-none [] = refl
 before-none (y ∷ made) = ap (column (string_bytes y.0) y.1) (before-none made)
 

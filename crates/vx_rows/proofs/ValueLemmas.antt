@@ -12,7 +12,7 @@ use Rattle.vx_rows.proofs.SpanLemmas.{span_same, every_holds}
 use Rattle.vx_rows.proofs.MakingLemmas.{IsPresence, span_list}
 use Rattle.vx_rows.proofs.CellLemmas.{value_found, values_long, value_long, value_again}
 
-cell-long : (p : PType) (row : Option ℤ) → length (cell p row) ≡ value_size p
+pub cell-long : (p : PType) (row : Option ℤ) → length (cell p row) ≡ value_size p
 cell-long p row = value_long p (unwrap_or row (pos 0))
 
 -- the number that stands where a row's value was written
@@ -20,7 +20,7 @@ pub raw_written : (p : PType) (rows : List (Option ℤ)) (front rest : List ℕ)
     → raw_at p (front ++ (flat_map (cell p) rows ++ rest)) (value_place p (length front) i) ≡ from_le_bytes (width p) (cell p (slice_index_or rows i None))
 raw_written p rows front rest i l = ap (from_le_bytes (width p)) (value_found (cell p) (value_size p) (cell-long p) rows None front rest i l)
 
-within-at : (p : PType) (row : Option ℤ) → IfSome row (λ n. is_within p n ≡ true) → cond (is_some row) (Some (value_of p (from_le_bytes (width p) (cell p row)))) None ≡ row
+pub within-at : (p : PType) (row : Option ℤ) → IfSome row (λ n. is_within p n ≡ true) → cond (is_some row) (Some (value_of p (from_le_bytes (width p) (cell p row)))) None ≡ row
 within-at p None h = refl
 within-at p (Some n) h = ap Some (value_again p n h)
 
@@ -34,7 +34,7 @@ zero-raw I16 = refl
 zero-raw I32 = refl
 zero-raw I64 = refl
 
-clear-at : (p : PType) (row : Option ℤ) → (is_some row || (from_le_bytes (width p) (cell p row) == 0)) ≡ true
+pub clear-at : (p : PType) (row : Option ℤ) → (is_some row || (from_le_bytes (width p) (cell p row) == 0)) ≡ true
 clear-at p None = zero-raw p
 clear-at p (Some n) = refl
 

@@ -7,3 +7,8 @@ pub mod Trees
 pub mod Written
 pub mod Encoded
 pub mod ValueTexts
+pub mod ReadValues
+pub mod ReadRows
+pub mod Kept
+pub mod Builders
+pub mod PrintedRows

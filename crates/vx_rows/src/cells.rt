@@ -1,15 +1,16 @@
 //! Values of integers as bytes.
-ghost use Rattle.std.specs.Prelude.{◌≡◌, ◌++◌, ℤ, Option, pos, true, unwrap_or, OnOk, IfOk, IfSome, length};
+ghost use Rattle.std.specs.Prelude.{◌≡◌, ◌++◌, ℤ, Option, pos, true, unwrap_or, OnOk, OnErr, IfOk, IfSome, length};
 ghost use Rattle.std.specs.List.{flat_map, All};
 ghost use Rattle.vx_rows.specs.Written.{is_within, value_bytes, cell};
 
 use std::alloc::{AllocError, Global};
 use vx_data::PType;
 
-/// Adds the bytes of a value.
+/// Adds the bytes of a value. Where memory refuses, nothing changes.
 fn push_value(bytes: &mut Vec<u8>, ptype: PType, value: i128) -> Result<(), AllocError>
     requires { is_within ptype value ≡ true }
-    ensures { OnOk result (bytes.new.items ≡ bytes.old.items ++ value_bytes ptype value) }
+    ensures err { OnErr result (bytes.new.items ≡ bytes.old.items) }
+    ensures ok { OnOk result (bytes.new.items ≡ bytes.old.items ++ value_bytes ptype value) }
 {
     match ptype {
         PType::U8 => bytes.extend_from_slice(&(value as u8).to_le_bytes()),
@@ -23,10 +24,11 @@ fn push_value(bytes: &mut Vec<u8>, ptype: PType, value: i128) -> Result<(), Allo
     }
 }
 
-/// Adds the bytes of a row: of the value 0, where it is null.
+/// Adds the bytes of a row: of the value 0, where it is null. Where memory refuses, nothing changes.
 pub fn push_cell(bytes: &mut Vec<u8>, ptype: PType, row: Option<i128>) -> Result<(), AllocError>
     requires { IfSome row (λ n. is_within ptype n ≡ true) }
-    ensures { OnOk result (bytes.new.items ≡ bytes.old.items ++ cell ptype row) }
+    ensures err { OnErr result (bytes.new.items ≡ bytes.old.items) }
+    ensures ok { OnOk result (bytes.new.items ≡ bytes.old.items ++ cell ptype row) }
 {
     push_value(bytes, ptype, row.unwrap_or(0))
 }

@@ -1,6 +1,7 @@
 //! Worked rows of the array codec, with ample memory.
 use crate::{
-    ArrayError, Column, EncodeError, Mask, decode_array, encode_array, push_rows, row_text,
+    ArrayError, Column, EncodeError, Mask, RowsError, decode_array, encode_array, push_rows,
+    read_rows, row_text,
 };
 use std::alloc::Global;
 use std::test::Fail;
@@ -198,5 +199,81 @@ fn a_struct_is_printed(rt: HostRuntime) -> Result<(), Fail> {
     }
     assert!(rt; row_text(alloc, &column, 0)?.as_str() == "(~)");
     assert!(rt; row_text(alloc, &column, 1)?.as_str() == "(hi)");
+    Ok(())
+}
+
+// The rows of a text printed again, or which line is bad.
+fn reread(alloc: Global, dtype: &str, text: &str) -> Result<Result<String, u64>, Fail> {
+    let Ok(dtype) = DType::from_text(alloc, dtype) else {
+        return Err(Fail::from("no type"));
+    };
+    match read_rows(alloc, &dtype, text) {
+        Ok(column) => Ok(Ok(printed(alloc, &column)?)),
+        Err(RowsError::BadLine(line)) => Ok(Err(line)),
+        Err(RowsError::OutOfMemory) => Err(Fail::from("no memory")),
+    }
+}
+
+// Whether a text is read as the rows that it prints.
+fn comes_back(alloc: Global, dtype: &str, text: &str) -> Result<bool, Fail> {
+    match reread(alloc, dtype, text)? {
+        Ok(rows) => Ok(rows.as_str() == text),
+        Err(_) => Ok(false),
+    }
+}
+
+// Whether a text is refused for its line of this number.
+fn is_bad(alloc: Global, dtype: &str, text: &str, line: u64) -> Result<bool, Fail> {
+    match reread(alloc, dtype, text)? {
+        Ok(_) => Ok(false),
+        Err(bad) => Ok(bad == line),
+    }
+}
+
+#[test]
+fn rows_come_back(rt: HostRuntime) -> Result<(), Fail> {
+    let alloc = rt.alloc();
+    assert!(rt; comes_back(alloc, "bool?", "true\n~\nfalse\n")?);
+    assert!(rt; comes_back(alloc, "u8", "")?);
+    assert!(rt; comes_back(alloc, "i8?", "-128\n127\n0\n~\n")?);
+    assert!(rt; comes_back(alloc, "u64", "18446744073709551615\n10\n")?);
+    assert!(rt; comes_back(alloc, "i64", "-9223372036854775808\n")?);
+    assert!(rt; comes_back(alloc, "text?", "a.b\n%\n~\n%20x%C3%A9\n")?);
+    assert!(rt; comes_back(alloc, "{}", "()\n()\n")?);
+    assert!(rt;
+        comes_back(
+            alloc,
+            "{a:u8,b:{c:text?}?}?",
+            "(1,(x))\n~\n(2,~)\n(3,(~))\n"
+        )?
+    );
+    Ok(())
+}
+
+#[test]
+fn the_first_bad_line_is_told(rt: HostRuntime) -> Result<(), Fail> {
+    let alloc = rt.alloc();
+    assert!(rt; is_bad(alloc, "bool", "true\n~\nno\n", 1)?);
+    assert!(rt; is_bad(alloc, "bool", "\n", 0)?);
+    assert!(rt; is_bad(alloc, "u8", "0\n255\n256\n", 2)?);
+    assert!(rt; is_bad(alloc, "u8", "1\n01\n", 1)?);
+    assert!(rt; is_bad(alloc, "i8", "-1\n-0\n", 1)?);
+    assert!(rt; is_bad(alloc, "i8", "-129\n", 0)?);
+    assert!(rt; is_bad(alloc, "u64", "18446744073709551616\n", 0)?);
+    assert!(rt; is_bad(alloc, "u8", "1 \n", 0)?);
+    assert!(rt; is_bad(alloc, "text", "a\n%41\n", 1)?);
+    assert!(rt; is_bad(alloc, "text", "%FF\n", 0)?);
+    assert!(rt; is_bad(alloc, "{a:u8,b:u8}", "(1,2)\n(1 2)\n", 1)?);
+    assert!(rt; is_bad(alloc, "{a:u8}", "~\n", 0)?);
+    Ok(())
+}
+
+#[test]
+fn the_last_line_feed_may_lack(rt: HostRuntime) -> Result<(), Fail> {
+    let alloc = rt.alloc();
+    match reread(alloc, "u8", "1\n2")? {
+        Ok(rows) => assert!(rt; rows.as_str() == "1\n2\n"),
+        Err(_) => return Err(Fail::from("refused")),
+    }
     Ok(())
 }

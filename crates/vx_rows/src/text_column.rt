@@ -40,7 +40,7 @@ impl Model for TextColumn {
 
 /// Bytes that are a text, as one.
 #[inline(always)]
-fn text_of(bytes: &[u8]) -> &str
+pub fn text_of(bytes: &[u8]) -> &str
     requires { IsUtf8 bytes.now }
     ensures { result.now ≡ bytes.now }
 {

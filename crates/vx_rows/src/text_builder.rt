@@ -1,0 +1,141 @@
+//! Columns of texts that grow row by row.
+ghost use Rattle.std.specs.Prelude.{ℕ, List, ◌≡◌, ◌||◌, ◌++◌, ◌∷◌, [], length, true, Some, None, if◌then◌else◌, IfOk, OnOk, OnErr};
+ghost use Rattle.vx_base.specs.Checks.{Gives, ◌lacking◌};
+ghost use Rattle.std.specs.Option.{option_map};
+ghost use Rattle.vx_data.specs.declared.text_error.TextError.TheVariants.{BadText};
+ghost use Rattle.vx_data.specs.TextsRead.{FailsToRead, quoted_in};
+ghost use Rattle.vx_rows.specs.Columns.{Texts};
+ghost use Rattle.vx_rows.specs.ReadValues.{optional_in};
+ghost use Rattle.vx_rows.specs.ReadRows.{more_texts, null_or};
+
+use crate::TextColumn;
+use crate::flags::Flags;
+use crate::value_reading::{read_null, read_plain};
+use std::alloc::{AllocError, Global};
+use std::marker::Model;
+use vx_base::{Alignment, ByteBuffer};
+use vx_data::{TextError, read_quoted};
+
+/// Texts so far: their bytes, the place of each and the place behind the last. Those of null rows are empty.
+#[derive(Drop)]
+pub struct TextBuilder {
+    present: Flags,
+    bytes: Vec<u8>,
+    places: Vec<usize>,
+}
+
+impl Model for TextBuilder {
+    ghost use Rattle.std.specs.Prelude.{◌≡◌, ◌+◌, length, slice_index};
+    ghost use Rattle.vx_rows.specs.Span.{span};
+    ghost use Rattle.vx_rows.specs.Columns.{Texts, text_row, AreRanges, AreTexts};
+    ghost use Rattle.vx_rows.specs.Kept.{kept};
+
+    ghost Value = { Texts };
+
+    ghost view = { λ b. record {
+      nullable = b.present.nullable;
+      rows = span (text_row (kept b.present) b.bytes.items b.places.items) 0 (length b.present.present);
+    } };
+
+    ghost invariant = { λ b. (length b.places.items ≡ length b.present.present + 1)
+        × (slice_index b.places.items (length b.present.present) ≡ length b.bytes.items)
+        × AreRanges b.bytes.items b.places.items (length b.present.present)
+        × AreTexts b.bytes.items b.places.items (length b.present.present) };
+}
+
+/// Adds a text and the place behind it. Where memory refuses, nothing changes.
+fn push_text(bytes: &mut Vec<u8>, places: &mut Vec<usize>, value: &str) -> Result<(), AllocError>
+    ensures bytes { OnOk result (bytes.new.items ≡ bytes.old.items ++ value.now) }
+    ensures places { OnOk result (places.new.items ≡ places.old.items ++ length bytes.new.items ∷ []) }
+    ensures err { OnErr result ((bytes.new.items ≡ bytes.old.items) × (places.new.items ≡ places.old.items)) }
+{
+    let before = bytes.len();
+    bytes.extend_from_slice(value.as_bytes())?;
+    match places.push(bytes.len()) {
+        Ok(()) => Ok(()),
+        Err(_) => {
+            bytes.truncate(before);
+            Err(AllocError)
+        }
+    }
+}
+
+impl TextBuilder {
+    /// No rows. Only memory refuses.
+    pub fn new(alloc: Global, may_be_null: bool) -> Result<TextBuilder, AllocError>
+        ensures { IfOk result (λ b. b ≡ record { nullable = may_be_null; rows = [] }) }
+    {
+        let mut places = Vec::new(alloc);
+        places.push(0)?;
+        Ok(TextBuilder {
+            present: Flags::new(alloc, may_be_null),
+            bytes: Vec::new(alloc),
+            places,
+        })
+    }
+
+    /// Adds a row that is there, or one that is null and has no bytes.
+    fn push_row(&mut self, is_there: bool, value: &str) -> Result<(), AllocError>
+        requires { (self.old.nullable || is_there) ≡ true }
+        ensures { OnOk result (self.new ≡ more_texts self.old (if is_there then Some value.now else None)) }
+    {
+        let before = self.bytes.len();
+        push_text(&mut self.bytes, &mut self.places, value)?;
+        match self.present.push(is_there) {
+            Ok(()) => Ok(()),
+            Err(error) => {
+                self.bytes.truncate(before);
+                self.places.pop();
+                Err(error)
+            }
+        }
+    }
+
+    /// Adds the row that stands in a struct that is null: null where it may be, else the empty text.
+    pub fn push_absent(&mut self) -> Result<(), AllocError>
+        ensures { OnOk result (self.new ≡ more_texts self.old (null_or self.old.nullable [])) }
+    {
+        let may_be_null = self.present.is_nullable();
+        self.push_row(!may_be_null, "")
+    }
+
+    /// Adds the value in front, and gives what follows it.
+    pub fn read<'a>(&mut self, alloc: Global, text: &'a [u8]) -> Result<&'a [u8], TextError>
+        ensures { Gives {A = Texts × List ℕ} FailsToRead (λ rest. (self.new, rest.now)) result
+            (BadText lacking option_map (λ x. (more_texts self.old x.0, x.1)) (optional_in quoted_in self.old.nullable text.now)) }
+    {
+        if let Some(rest) = read_null(self.present.is_nullable(), text) {
+            self.push_absent()?;
+            return Ok(rest);
+        }
+        if let Some((value, rest)) = read_plain(text) {
+            self.push_row(true, value)?;
+            return Ok(rest);
+        }
+        let (value, rest) = read_quoted(alloc, text)?;
+        self.push_row(true, value.as_str())?;
+        Ok(rest)
+    }
+
+    /// The column of the rows.
+    pub fn finish(self, alloc: Global) -> Result<TextColumn, AllocError>
+        ensures { IfOk result (λ column. column ≡ self) }
+    {
+        let TextBuilder {
+            present,
+            bytes,
+            places,
+        } = self;
+        let bits = present.to_bits(alloc)?;
+        let held = ByteBuffer::from_vec(alloc, bytes, Alignment::none())?;
+        let column = TextColumn::new(
+            alloc,
+            present.is_nullable(),
+            bits,
+            &held,
+            places,
+            present.len(),
+        )?;
+        Ok(column)
+    }
+}
