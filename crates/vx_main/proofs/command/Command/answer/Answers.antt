@@ -6,3 +6,8 @@ pub returns-in-Demo-clause-keeps : goal.returns-in-Demo-clause-keeps
 returns-in-Demo-clause-keeps g c =
     let files = g.F.Opener.state c.args.files.now in
     subst (λ x. Keeps x (g.I.Source.state c.args.input.now) (g.I.Source.state c.answer-in-Demo.new.input) files files) (sym c.in-Demo.is) (c.answer-in-Demo.ensures.keeps files)
+
+pub returns-in-Sizes-clause-keeps : goal.returns-in-Sizes-clause-keeps
+returns-in-Sizes-clause-keeps g c =
+    let source = g.I.Source.state c.args.input.now in
+    subst (λ x. Keeps x source source (g.F.Opener.state c.args.files.now) (g.F.Opener.state c.answer-in-Sizes.new.files)) (sym c.in-Sizes.is) (c.answer-in-Sizes.ensures.keeps source)
