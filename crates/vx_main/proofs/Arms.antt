@@ -210,7 +210,7 @@ no-replies (reply ∷ replies) e = absurd cc
 asked-nothing-more : (name : List ℕ) (ranges : List (ℕ × ℕ)) (spans : List Span) (replies : List Reply) (before now : OpenerState) → spans ≡ [] → length replies ≡ 0 → GivesBack name before now (asked ranges spans replies)
     → GivesBack name before now (opened ranges)
 asked-nothing-more name ranges spans replies before now no_spans none h =
-    subst (GivesBack name before now) (append-nil (opened ranges) ∙ append-nil (opened ranges)) (subst (λ ss. GivesBack name before now (asked ranges ss [])) no_spans (subst (λ rs. GivesBack name before now (asked ranges spans rs)) (no-replies replies none) h))
+    subst (GivesBack name before now) (append-nil (opened ranges ++ []) ∙ append-nil (opened ranges)) (subst (λ ss. GivesBack name before now (asked ranges ss [])) no_spans (subst (λ rs. GivesBack name before now (asked ranges spans rs)) (no-replies replies none) h))
 
 -- the file was not opened
 pub sizes-fails : (s : sizes.Sizes) (source : SourceState) (files files_now : OpenerState) (failure : Failure) → opens s files files_now (Err failure) → Gathers (commands.Sizes s) source source files files_now (Err failure)
