@@ -1,4 +1,5 @@
 pub mod Answering
+pub mod Buffers
 pub mod Covering
 pub mod Loadings
 pub mod Looking

@@ -1,5 +1,5 @@
 -- How a file is opened, from its tail or by the footer that is supplied.
-use Rattle.std.proofs.Common.{◌≡◌, ℕ, zero, suc, ◌+◌, ◌-◌, ◌^◌, ◌<◌, ◌≤◌, Bool, true, false, List, [], ◌∷◌, length, map, get_or, Option, Some, None, Result, Ok, Err, refl, sym, ap, subst, ◌∙◌, arith}
+use Rattle.std.proofs.Common.{◌≡◌, ℕ, zero, suc, ◌+◌, ◌-◌, ◌^◌, ◌<◌, ◌≤◌, Bool, true, false, List, [], ◌∷◌, length, map, get_or, Option, Some, None, Result, Ok, Err, refl, sym, ap, subst, ◌∙◌, arith, inl, inr}
 use Rattle.std.specs.Prelude.{All, slice_get}
 use Rattle.std.specs.List.{list_all}
 use Rattle.std.proofs.lemmas.List.{append-nil}
@@ -22,7 +22,7 @@ use Rattle.vx_file.specs.declared.opened.Opened.{Opened}
 use Rattle.vx_file.specs.declared.opening.Opening.{Opening}
 use Rattle.vx_file.specs.declared.served.ServeError.{ServeError}
 use Rattle.vx_file.specs.declared.served.ServeError.TheVariants.{Open, Fault as FaultOf, CacheFault, OutOfMemory}
-use Rattle.vx_file.specs.Hints.{Hints, IsSized, IsSizeOf, IsSizeBeside, IsFooterOf}
+use Rattle.vx_file.specs.Hints.{Hints, IsSized, IsSizeOf, IsSizeBeside, IsFooterOf, IsBounded}
 use Rattle.vx_file.specs.Opened.{OpensBy, OpenCause, Supplies, IsTailAt}
 use Rattle.vx_file.specs.Plans.{Plan, tail_plan, supplied_plan, plan_with, plan_of, greatest_end}
 use Rattle.vx_file.specs.Ranges.{first_start, tail_start, range_before, tail_ranges, opening_range, opened}
@@ -88,6 +88,14 @@ plan-ends hints file None g is h = table-ends (length file) (segment_table g) (g
 plan-ends hints file (Some f) g is h =
     table-ends (length file) (segment_table g)
     (subst (λ (x : FooterContent). list_all (ends_within (length file)) (segment_table x) ≡ true) (extent-same (greatest_end hints.size) f g h) (grammar-ends file (Some (dtype_of f.layout)) f is))
+
+sized-ends : (hints : Hints) (file : List ℕ) (supplied : Option FooterContent) (g : FooterContent) → hints.size ≡ Some (length file) → (plan_with supplied hints file).footer ≡ Ok g → TableEndsWithin (length file) (segment_table g)
+sized-ends hints file None g is h = table-ends (length file) (segment_table g) (grammar-ends file hints.dtype g h)
+sized-ends hints file (Some f) g is h = table-ends (length file) (segment_table g) (extent-ends (length file) f g (subst (λ size. extent_check (greatest_end size) f ≡ Ok g) is h))
+
+pub bounded-ends : (hints : Hints) (file : List ℕ) (g : FooterContent) → IsBounded hints file → (plan_of hints file).footer ≡ Ok g → TableEndsWithin (length file) (segment_table g)
+bounded-ends hints file g (inl is) h = plan-ends hints file hints.footer g is h
+bounded-ends hints file g (inr is) h = sized-ends hints file hints.footer g is h
 
 -- ---- from the tail
 

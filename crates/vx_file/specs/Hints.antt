@@ -1,5 +1,5 @@
 -- What is known of a file before it is opened, and how much of it is read first.
-use Rattle.std.specs.Prelude.{◌≡◌, ℕ, max, Bool, false, List, length, Option, Some, None, Ok}
+use Rattle.std.specs.Prelude.{◌≡◌, ℕ, max, Bool, false, List, length, Option, Some, None, Ok, ◌⊎◌}
 use Rattle.vx_data.specs.Dtype.{Dtype}
 use Rattle.vx_data.specs.Layout.{dtype_of}
 use Rattle.vx_footer.specs.Footers.{FooterContent}
@@ -42,3 +42,7 @@ IsSized hints file = IsSizeBeside hints.footer hints.size file
 abbrev pub IsFooterOf : Option FooterContent → List ℕ → Type 0
 IsFooterOf None file = Unit {0}
 IsFooterOf (Some footer) file = vx_grammar file (Some (dtype_of footer.layout)) ≡ Ok footer
+
+-- the segments of a footer that is supplied end within the file: it is the file's, or the supplied size is
+abbrev pub IsBounded : Hints → List ℕ → Type 0
+IsBounded hints file = IsFooterOf hints.footer file ⊎ (hints.size ≡ Some (length file))

@@ -1,3 +1,4 @@
+pub mod Buffers
 pub mod Covered
 pub mod Hints
 pub mod Loading

@@ -4,6 +4,7 @@
 mod covered;
 mod memory;
 mod metadata;
+mod open_options;
 mod opened;
 mod opening;
 mod options;
@@ -15,11 +16,14 @@ mod step;
 mod steps;
 #[cfg(test)]
 mod tests;
+mod vortex_file;
 
 pub use memory::serve_in_memory;
 pub use metadata::MetadataValue;
+pub use open_options::{OpenOptionsSessionExt, VortexOpenOptions};
 pub use options::ServeOptions;
 pub use served::{ServeError, Served};
 pub use serving::serve;
 pub use step::Step;
+pub use vortex_file::VortexFile;
 pub use vx_source::{FailCause, Reply, Span, SpanOutcome};

@@ -10,7 +10,7 @@ ghost use Rattle.vx_source.specs.Kept.{tail_start};
 ghost use Rattle.vx_source.specs.Puts.{Gains};
 ghost use Rattle.vx_source.specs.Stands.{AreFit, Stands, EndsWithin, world};
 ghost use Rattle.vx_file.specs.Covered.{covered_from};
-ghost use Rattle.vx_file.specs.Hints.{IsSized, IsFooterOf};
+ghost use Rattle.vx_file.specs.Hints.{IsSized, IsBounded};
 ghost use Rattle.vx_file.specs.Loading.{LoadIfCause, range_of, spans_of, values_in};
 ghost use Rattle.vx_file.specs.Plans.{plan_of, table_world};
 ghost use Rattle.vx_file.specs.Prepared.{PrepareCause};
@@ -159,7 +159,7 @@ pub(crate) fn prepare<R: Reader, C: SegmentCache>(
     ensures fault { FaultRose (R.state reader.old) (R.state reader.new) (C.state cache.old) (C.state cache.new) result }
     ensures names { NamesCheck result }
     ensures steady { (file : List ℕ) → (R.state reader.old).never_fails ≡ true → (R.state reader.old).bytes ≡ Some file →
-        IsSized options.now file → IsFooterOf options.now.footer file → (R.state reader.new).faults ≡ (R.state reader.old).faults }
+        IsSized options.now file → IsBounded options.now file → (R.state reader.new).faults ≡ (R.state reader.old).faults }
     ensures fit { IfOk result (λ p. AreFit (segment_table p.footer.content) p.tail) }
     ensures same { SameReader (R.state reader.old) (R.state reader.new) }
     ensures same_cache { SameCache (C.state cache.old) (C.state cache.new) }

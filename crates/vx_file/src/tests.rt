@@ -1,5 +1,7 @@
 //! Files that are opened by a supplied footer, caches that are kept, and metadata that is loaded, with ample memory.
-use crate::{FailCause, Reply, ServeError, ServeOptions, Served, Step, serve};
+use crate::{
+    FailCause, OpenOptionsSessionExt, Reply, ServeError, ServeOptions, Served, Step, serve,
+};
 use std::alloc::Global;
 use std::test::Fail;
 use vx_base::{
@@ -142,5 +144,28 @@ fn the_first_entry_that_fails_refuses_the_file(rt: HostRuntime) -> Result<(), Fa
         return Err(Fail::from("no fault"));
     };
     assert!(rt; fault.place() == Place::Range { offset: 26, length: 2 });
+    Ok(())
+}
+
+#[test]
+fn a_file_in_memory_is_opened(rt: HostRuntime) -> Result<(), Fail> {
+    let alloc = rt.alloc();
+    let file = file(alloc, KEYED)?;
+    let session = VortexSession::new(alloc)?;
+    let options = session.open_options(alloc)?.include_metadata();
+    let opened = options
+        .open_buffer(alloc, file.share(alloc)?)
+        .ok()
+        .ok_or("refused")?;
+    assert_eq!(rt; opened.row_count(), 4);
+    assert_eq!(rt; opened.metadata_segments().len(), 2);
+    let value = opened.metadata_segment("made-by").ok_or("no value")?;
+    assert!(rt; value.as_slice() == b"vx".as_slice());
+    assert!(rt; opened.metadata_segment("by").is_none());
+    let footer = opened.footer().share(alloc)?;
+    let known = session.open_options(alloc)?.with_footer(alloc, footer)?;
+    let short = file.slice(alloc, 0..25)?;
+    let refused = known.open_buffer(alloc, short).err();
+    assert!(rt; refused == Some(ServeError::Open(OpenError::PastEnd)));
     Ok(())
 }

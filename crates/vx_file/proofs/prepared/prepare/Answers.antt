@@ -2,7 +2,7 @@ use Rattle.std.proofs.Common.{◌≡◌, ◌∙◌, rules, inr, Err}
 use Rattle.vx_file.specs.declared.served.ServeError.TheVariants.{OutOfMemory}
 use Rattle.vx_file.specs.Plans.{plan_of}
 use Rattle.vx_file.specs.Serving.{put_error}
-use Rattle.vx_file.proofs.Opens.{plan-ends}
+use Rattle.vx_file.proofs.Opens.{bounded-ends}
 use Rattle.vx_file.proofs.Prepares.{put-refused, load-refused, prepared-is, same-settings, ends-there}
 use Rattle.vx_file.proofs.prepared.prepare.Goals as goal
 
@@ -32,7 +32,7 @@ pub returns-in_err-loaded-clause-steady : goal.returns-in_err-loaded-clause-stea
 returns-in_err-loaded-clause-steady g c = λ file never told sized is.
     let opened = c.in_ok-opened.ensures in
     let h = opened.cause file told sized in
-    c.in_err-loaded.ensures.steady file (opened.same.never_fails ∙ never) (opened.same.bytes ∙ told) (plan-ends c.args.options.now file c.args.options.now.footer c.in_ok-opened.opened.footer.content is h.footer)
+    c.in_err-loaded.ensures.steady file (opened.same.never_fails ∙ never) (opened.same.bytes ∙ told) (bounded-ends c.args.options.now file c.in_ok-opened.opened.footer.content is h.footer)
     ∙ opened.steady file never told sized
 
 pub returns-in_err-metadata-clause-cause : goal.returns-in_err-metadata-clause-cause
@@ -53,7 +53,7 @@ pub returns-in_err-metadata-clause-steady : goal.returns-in_err-metadata-clause-
 returns-in_err-metadata-clause-steady g c = λ file never told sized is.
     let opened = c.in_ok-opened.ensures in
     let h = opened.cause file told sized in
-    c.in_ok-loaded.ensures.steady file (opened.same.never_fails ∙ never) (opened.same.bytes ∙ told) (plan-ends c.args.options.now file c.args.options.now.footer c.in_ok-opened.opened.footer.content is h.footer)
+    c.in_ok-loaded.ensures.steady file (opened.same.never_fails ∙ never) (opened.same.bytes ∙ told) (bounded-ends c.args.options.now file c.in_ok-opened.opened.footer.content is h.footer)
     ∙ opened.steady file never told sized
 
 pub returns-clause-cause : goal.returns-clause-cause
@@ -74,5 +74,5 @@ pub returns-clause-steady : goal.returns-clause-steady
 returns-clause-steady g c = λ file never told sized is.
     let opened = c.in_ok-opened.ensures in
     let h = opened.cause file told sized in
-    c.in_ok-loaded.ensures.steady file (opened.same.never_fails ∙ never) (opened.same.bytes ∙ told) (plan-ends c.args.options.now file c.args.options.now.footer c.in_ok-opened.opened.footer.content is h.footer)
+    c.in_ok-loaded.ensures.steady file (opened.same.never_fails ∙ never) (opened.same.bytes ∙ told) (bounded-ends c.args.options.now file c.in_ok-opened.opened.footer.content is h.footer)
     ∙ opened.steady file never told sized

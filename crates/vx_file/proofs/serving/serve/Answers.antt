@@ -57,7 +57,7 @@ returns-in-Err-clause-steady g c = λ file never told sized is.
     let mid = state c.prepare.new.reader in
     let stands = own-world plan file p start mid h.tail (same-settings start mid prepared.same) c.segment_specs_with_metadata-segments.result.now c.segment_specs_with_metadata-segments.ensures c.in_ok-session.session c.in_ok-session.ensures.stands in
     c.in-Err.ensures.steady (world_of plan p.footer.content (settings_of start)) file (prepared.same.never_fails ∙ never) (prepared.same.bytes ∙ told) stands (plan-ends c.args.options file c.args.options.footer p.footer.content is h.prepares.footer_is)
-    ∙ prepared.steady file never told sized is
+    ∙ prepared.steady file never told sized (inl is)
 
 pub returns-clause-steady : goal.returns-clause-steady
 returns-clause-steady g c = λ file never told sized is.
@@ -70,7 +70,7 @@ returns-clause-steady g c = λ file never told sized is.
     let mid = state c.prepare.new.reader in
     let stands = own-world plan file p start mid h.tail (same-settings start mid prepared.same) c.segment_specs_with_metadata-segments.result.now c.segment_specs_with_metadata-segments.ensures c.in_ok-session.session c.in_ok-session.ensures.stands in
     c.in-Ok.ensures.steady (world_of plan p.footer.content (settings_of start)) file (prepared.same.never_fails ∙ never) (prepared.same.bytes ∙ told) stands (plan-ends c.args.options file c.args.options.footer p.footer.content is h.prepares.footer_is)
-    ∙ prepared.steady file never told sized is
+    ∙ prepared.steady file never told sized (inl is)
 
 pub returns-clause-cause : goal.returns-clause-cause
 returns-clause-cause g c = λ file told sized.
