@@ -215,4 +215,3 @@ module _ (plan : Plan) (file : List ℕ) (p : Prepared) where
 
   pub own-bytes : IsTailAt file plan.start p.tail → (k : Kept) → ((file : List ℕ) → IsEnd file p.tail → HasBytes file k) → HasBytes file k
   own-bytes tail k bytes = bytes file (tail-end file plan.start p.tail tail)
-

@@ -37,7 +37,8 @@ fn put_one<C: SegmentCache>(
     spec: &SegmentSpec,
 ) -> Result<(), CacheError>
     requires { LiesIn (Some tail.now) spec.now }
-    ensures gains { OnOk result ((file : List ℕ) → IsEnd file (Some tail.now) → Gains (covered_put file tail.now.start number spec.now) (C.state cache.old) (C.state cache.new)) }
+    ensures gains { OnOk result ((file : List ℕ) → IsEnd file (Some tail.now) →
+        Gains (covered_put file tail.now.start number spec.now) (C.state cache.old) (C.state cache.new)) }
     ensures failed { result ≡ Err errors.Failed → Rises 1 (C.state cache.old).faults (C.state cache.new).faults }
     ensures same { SameCache (C.state cache.old) (C.state cache.new) }
 {
@@ -57,7 +58,8 @@ pub(crate) fn put_covered<C: SegmentCache>(
     segments: &[SegmentSpec],
 ) -> Result<(), CacheError>
     requires { (n : ℕ) (s : SegmentSpec) → slice_get segments.now n ≡ Some s → LiesIn (Some tail.now) s }
-    ensures gains { OnOk result ((file : List ℕ) → IsEnd file (Some tail.now) → Gains (covered_segments file tail.now.start segments.now) (C.state cache.old) (C.state cache.new)) }
+    ensures gains { OnOk result ((file : List ℕ) → IsEnd file (Some tail.now) →
+        Gains (covered_segments file tail.now.start segments.now) (C.state cache.old) (C.state cache.new)) }
     ensures failed { result ≡ Err errors.Failed → Rises 1 (C.state cache.old).faults (C.state cache.new).faults }
     ensures same { SameCache (C.state cache.old) (C.state cache.new) }
 {

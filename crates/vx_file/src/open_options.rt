@@ -66,7 +66,8 @@ fn prepare_known<R: Reader>(
         PrepareCause (plan_of options.now file) options.now.metadata file (R.state reader.old) (R.state reader.new) nothing_held nothing_held result }
     ensures fault { FaultRose (R.state reader.old) (R.state reader.new) nothing_held nothing_held result }
     ensures names { NamesCheck result }
-    ensures steady { (file : List ℕ) → (R.state reader.old).never_fails ≡ true → (R.state reader.old).bytes ≡ Some file → options.now.size ≡ Some (length file) →
+    ensures steady { (file : List ℕ) → (R.state reader.old).never_fails ≡ true → (R.state reader.old).bytes ≡ Some file →
+        options.now.size ≡ Some (length file) →
         (R.state reader.new).faults ≡ (R.state reader.old).faults }
     ensures same { SameReader (R.state reader.old) (R.state reader.new) }
 {

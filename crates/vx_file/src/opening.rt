@@ -239,7 +239,8 @@ pub(crate) fn footer_of(
 ) -> Result<Footer, ServeError>
     requires bound { tail.now.start + length tail.now.bytes.bytes < 2 ^ 64 }
     requires settled { IfNone footer (asks_bytes (tail_step options.now tail.now) ≡ false) }
-    ensures cause { (file : List ℕ) → TailFrom file (tail_start options.now file) tail.now → IsFound options.now file footer → FooterCause options.now file result }
+    ensures cause { (file : List ℕ) → TailFrom file (tail_start options.now file) tail.now → IsFound options.now file footer →
+        FooterCause options.now file result }
     ensures refuses { Refuses result }
     ensures within { IfOk result (λ f. All (EndsWithin (tail.now.start + length tail.now.bytes.bytes)) (segment_table f.content)) }
 {

@@ -38,8 +38,13 @@ impl Model for ServeOptions {
 
     ghost coded = { Prim.hlevel (codes, dtype_code, tree_code) };
 
-    ghost view = { λ o. record { size = o.file_size; initial = o.initial_read_size; dtype = option_map dtype_view o.dtype;
-        footer = option_map (λ (f : FooterValue). f.content) o.footer; metadata = o.include_metadata } };
+    ghost view = { λ o. record {
+      size = o.file_size;
+      initial = o.initial_read_size;
+      dtype = option_map dtype_view o.dtype;
+      footer = option_map (λ (f : FooterValue). f.content) o.footer;
+      metadata = o.include_metadata;
+    } };
 }
 
 impl ServeOptions {

@@ -43,7 +43,8 @@ fn put_tail<C: SegmentCache>(
     segments: &[SegmentSpec],
 ) -> Result<(), CacheError>
     requires { AreFit segments.now tail.now }
-    ensures gains { OnOk result ((file : List ℕ) → IsEnd file tail.now → Gains (covered_from file (tail_start tail.now) segments.now) (C.state cache.old) (C.state cache.new)) }
+    ensures gains { OnOk result ((file : List ℕ) → IsEnd file tail.now →
+        Gains (covered_from file (tail_start tail.now) segments.now) (C.state cache.old) (C.state cache.new)) }
     ensures failed { result ≡ Err cache_error.Failed → Rises 1 (C.state cache.old).faults (C.state cache.new).faults }
     ensures same { SameCache (C.state cache.old) (C.state cache.new) }
 {

@@ -26,7 +26,8 @@ fn answer_step<R: Reader, C: SegmentCache>(
     requires room { length session.old.requests < u64.MAX }
     ensures answered { IfOk result (λ reply. (w : World) (past : List Moment) → Stands w past session.old →
         IsAnswered w past step (R.state reader.old) (R.state reader.new) (C.state cache.old) (C.state cache.new) reply session.new) }
-    ensures stays { IfOk result (λ reply. (w : World) (past : List Moment) (file : List ℕ) → (R.state reader.old).bytes ≡ Some file → Stands w past session.old →
+    ensures stays { IfOk result (λ reply. (w : World) (past : List Moment) (file : List ℕ) → (R.state reader.old).bytes ≡ Some file →
+        Stands w past session.old →
         HasBytes file session.old → TellsSlices file w.table (C.state cache.old) → StaysTrue file w past step (C.state cache.new) reply session.new) }
     ensures stopped { OnErr result ((w : World) (past : List Moment) → Stands w past session.old →
         StopsStep w past (R.state reader.old).log (R.state reader.new).log) }

@@ -29,7 +29,7 @@ use Rattle.vx_main.specs.declared.failure.Failure.TheVariants as failures
 
 abbrev pub ReaderCause : Hints → List ℕ → List Step → ReaderState → ReaderState → CacheState → CacheState → Result Served Failure → Type 0
 ReaderCause hints file script before now cache cache_now (Ok served) = ServedFrom (plan_of hints file) hints.metadata file script before now cache cache_now served
-ReaderCause hints file script before now cache cache_now (Err (failures.Read fault)) = 
+ReaderCause hints file script before now cache cache_now (Err (failures.Read fault)) =
     SizeFault (plan_of hints file) before now fault ⊎ TailFault (plan_of hints file) before now fault ⊎ MetadataFault (plan_of hints file) before now cache_now (cause.Fault fault)
 ReaderCause hints file script before now cache cache_now (Err (failures.Refused refusal)) = RefusedFrom (plan_of hints file) before now refusal
 ReaderCause hints file script before now cache cache_now (Err failures.OutOfMemory) = Unit {0}

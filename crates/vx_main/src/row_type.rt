@@ -44,7 +44,10 @@ fn spelled<'a>(alloc: Global, word: &str) -> Result<RowType, Failure<'a>>
 
 impl RowType {
     /// The type that the values of an option spell, where it is given.
-    pub(crate) fn parse<'a>(alloc: Global, values: Option<&[String]>) -> Result<RowType, Failure<'a>>
+    pub(crate) fn parse<'a>(
+        alloc: Global,
+        values: Option<&[String]>,
+    ) -> Result<RowType, Failure<'a>>
         ensures { Parses (optional_dtype (option_map (λ v. map string_bytes v.now) values.entry)) result }
     {
         match values {

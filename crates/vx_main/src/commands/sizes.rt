@@ -110,7 +110,11 @@ impl<'a> Sizes<'a> {
     }
 
     /// The sizes of the fields.
-    pub(crate) fn answer<F: Opener>(&self, alloc: Global, files: &mut F) -> Result<Answer, Failure<'a>>
+    pub(crate) fn answer<F: Opener>(
+        &self,
+        alloc: Global,
+        files: &mut F,
+    ) -> Result<Answer, Failure<'a>>
         ensures gathers { (source : SourceState) → Gathers (commands.Sizes self.now) source source (F.state files.old) (F.state files.new) result }
         ensures keeps { (source : SourceState) → Keeps (commands.Sizes self.now) source source (F.state files.old) (F.state files.new) }
     {

@@ -5,7 +5,8 @@ ghost use Rattle.vx_main.specs.Text.{Adds};
 use crate::text::TextOut;
 use vx_base::Sink;
 
-const WHAT: &[u8] = b"vx serves the segments of columnar files and tells how large their fields are.\n\n";
+const WHAT: &[u8] =
+    b"vx serves the segments of columnar files and tells how large their fields are.\n\n";
 
 const USAGE: &[u8] = b"usage: vx COMMAND\n\n";
 
@@ -21,8 +22,7 @@ const SIZE: &[u8] = b"      --size N      the file has N bytes: its size is not 
 const INITIAL: &[u8] =
     b"      --initial N   the first read asks for the last N bytes, 65535 at least\n";
 
-const DTYPE: &[u8] =
-    b"      --dtype D     the rows have the type D: the file's own is not read\n";
+const DTYPE: &[u8] = b"      --dtype D     the rows have the type D: the file's own is not read\n";
 
 const META: &[u8] = b"      --meta        the values of the metadata are read and printed\n";
 

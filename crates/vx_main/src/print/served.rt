@@ -47,11 +47,7 @@ fn put_values<S: Sink>(values: &[MetadataValue], text: &mut TextOut, out: &mut S
 }
 
 /// Adds the values of the metadata, if they were loaded.
-fn put_loaded<S: Sink>(
-    metadata: &Option<Sequence<MetadataValue>>,
-    text: &mut TextOut,
-    out: &mut S,
-)
+fn put_loaded<S: Sink>(metadata: &Option<Sequence<MetadataValue>>, text: &mut TextOut, out: &mut S)
     ensures { Adds (values_text metadata.now) text.old (S.state out.old) text.new (S.state out.new) }
 {
     match metadata {

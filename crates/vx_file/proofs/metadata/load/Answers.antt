@@ -47,9 +47,11 @@ returns-in_err-values-clause-steady g c = λ w file never told st inside. c.in_o
 pub returns-clause-cause : goal.returns-clause-cause
 returns-clause-cause g c = λ w file told st bytes is.
     let cache = g.C.SegmentCache.state in
-    let e = c.in_ok-fetched.ensures in
-    (loads-are w c.args.footer.now.content is c.deref.result.now (c.deref.ensures.value ∙ c.in_ok-ids.ensures.ids) (cache c.args.cache.now) (cache c.segments.new.cache) c.in_ok-fetched.fetched c.segments.new.self file c.in_ok-values.values
-    (e.fetches w [] st) (e.answers w [] st) (search rules) (λ t. e.slices w [] file told st bytes t) (search rules), record { log = e.log; rises = e.bad })
+    let e = c.in_ok-fetched.ensures in (
+      loads-are w c.args.footer.now.content is c.deref.result.now (c.deref.ensures.value ∙ c.in_ok-ids.ensures.ids) (cache c.args.cache.now) (cache c.segments.new.cache) c.in_ok-fetched.fetched c.segments.new.self file c.in_ok-values.values
+          (e.fetches w [] st) (e.answers w [] st) (search rules) (λ t. e.slices w [] file told st bytes t) (search rules),
+      record { log = e.log; rises = e.bad },
+    )
 
 pub returns-clause-slices : goal.returns-clause-slices
 returns-clause-slices g c = λ w file told st bytes t. (c.in_ok-fetched.ensures.bytes w [] file told st bytes t).1
