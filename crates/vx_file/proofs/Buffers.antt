@@ -1,5 +1,5 @@
 -- A file in memory is prepared.
-use Rattle.std.proofs.Common.{◌≡◌, ℕ, Bool, true, false, List, [], Option, Some, None, Result, Ok, Err, refl, sym, ap, subst, arith}
+use Rattle.std.proofs.Common.{◌≡◌, ℕ, Bool, true, false, List, [], Option, Some, None, Result, Ok, Err, refl, ap, subst, arith}
 use Rattle.vx_base.specs.Caches.{CacheState, nothing_held}
 use Rattle.vx_base.specs.Readers.{ReaderState}
 use Rattle.vx_base.specs.declared.segment.SegmentSpec.{SegmentSpec}

@@ -7,7 +7,6 @@ use Rattle.vx_file.specs.declared.metadata.MetadataValue.{MetadataValue}
 use Rattle.vx_file.specs.declared.prepared.Prepared.{Prepared}
 use Rattle.vx_file.specs.declared.served.ServeError.{ServeError}
 use Rattle.vx_file.specs.declared.served.ServeError.TheVariants as errors
-use Rattle.vx_file.specs.declared.vortex_file.VortexFile.{VortexFile}
 use Rattle.vx_file.specs.Hints.{Hints}
 use Rattle.vx_file.specs.Loading.{value_in}
 use Rattle.vx_file.specs.Plans.{Plan, plan_of}

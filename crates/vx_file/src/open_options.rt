@@ -4,6 +4,7 @@ ghost use Rattle.vx_base.specs.Caches.{nothing_held};
 ghost use Rattle.vx_base.specs.Readers.{SameReader};
 ghost use Rattle.vx_data.specs.Dtype.{dtype_view};
 ghost use Rattle.vx_data.specs.Layout.{dtype_of};
+ghost use Rattle.vx_data.specs.Session.{Session};
 ghost use Rattle.vx_file.specs.Buffers.{PreparesBuffer, OpensBuffer, buffer_plan};
 ghost use Rattle.vx_file.specs.Hints.{no_hints};
 ghost use Rattle.vx_file.specs.Plans.{plan_of};
@@ -35,7 +36,7 @@ pub struct VortexOpenOptions<C: SegmentCache> {
 /// Sessions open files.
 pub trait OpenOptionsSessionExt: Sized {
     // What the session is.
-    ghost opens_with: { Self → VortexSession };
+    ghost opens_with: { Self → Session };
 
     /// Options for a file of which nothing is known. Only memory refuses.
     fn open_options(&self, alloc: Global) -> Result<VortexOpenOptions<NoCache>, AllocError>

@@ -1,4 +1,4 @@
-use Rattle.std.proofs.Common.{◌≡◌, ◌∙◌, length, Some, true, rules, ap, refl}
+use Rattle.std.proofs.Common.{◌≡◌, length, Some, rules, ap}
 use Rattle.vx_file.specs.Buffers.{in_buffer}
 use Rattle.vx_file.specs.Hints.{Hints}
 use Rattle.vx_file.proofs.Buffers.{buffer-prepared}
