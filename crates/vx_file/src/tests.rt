@@ -46,14 +46,17 @@ fn knowing(alloc: Global, file: &ByteBuffer) -> Result<ServeOptions, Fail> {
     }
 }
 
-// Whether a reply is told so: of a drive how many spans there are.
+// Whether a reply is told so; a drive has the one span of the data segment.
 fn is_told(reply: &Reply, told: &str) -> bool {
     match reply {
         Reply::Registered { held, .. } => told == if *held { "held" } else { "registered" },
         Reply::Pending => told == "pending",
         Reply::Ready(bytes) => told == "ready" && bytes.len() == 18,
         Reply::Failed(FailCause::Fault(_)) => told == "failed",
-        Reply::Driven(spans) => told == "driven" && spans.len() == 1,
+        Reply::Driven(spans) => match spans.as_slice() {
+            [span] => told == "driven" && span.start == 8 && span.end == 26,
+            _ => false,
+        },
         _ => false,
     }
 }

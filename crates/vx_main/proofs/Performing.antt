@@ -1,5 +1,5 @@
 -- What performing a command does, from its parse, its answer, and the writing of that.
-use Rattle.std.proofs.Common.{◌≡◌, Option, Some, None, Ok, Err, refl, sym, subst, inl, inr}
+use Rattle.std.proofs.Common.{◌≡◌, true, Option, Some, None, Ok, Err, refl, sym, subst, inl, inr}
 use Rattle.vx_base.specs.Openers.{OpenerState}
 use Rattle.vx_base.specs.Streams.{SinkState, SourceState}
 use Rattle.vx_base.specs.declared.fault.SinkError.{SinkError}
@@ -12,7 +12,7 @@ use Rattle.vx_main.specs.declared.failure.Failure.TheVariants as failures
 use Rattle.vx_main.specs.Command.{Parses}
 use Rattle.vx_main.specs.Failures.{HasCause, LeavesFiles}
 use Rattle.vx_main.specs.Outputs.{IsAnswer, text_of}
-use Rattle.vx_main.specs.Outside.{Outside, outside}
+use Rattle.vx_main.specs.Outside.{Outside, Keeps, KeepSteady, outside}
 use Rattle.vx_main.specs.Runs.{Gathers, Performs}
 use Rattle.vx_main.specs.Text.{Writes}
 
@@ -96,3 +96,9 @@ pub unwritten : (command : Option Command) (c : Command) (e : SinkError) (source
     → Writes (text_of answer) out out_now (Err e) → Performs command (outside source files out) (outside source_now files_now out_now) (Err (failure_of e))
 unwritten command c e source source_now files files_now out out_now answer is h w =
     subst (λ x. Performs x (outside source files out) (outside source_now files_now out_now) (Err (failure_of e))) (sym is) (unwritten-by e c source source_now files files_now out out_now answer h w)
+
+-- the counts of what never fails stand still
+pub keeps-steady : (command : Option Command) (c : Command) (source source_now : SourceState) (files files_now : OpenerState) (out out_now : SinkState) → command ≡ Some c → Keeps c source source_now files files_now
+    → (out.never_fails ≡ true → out_now.faults ≡ out.faults) → KeepSteady command (outside source files out) (outside source_now files_now out_now)
+keeps-steady command c source source_now files files_now out out_now is keeps still =
+    subst (λ x. KeepSteady x (outside source files out) (outside source_now files_now out_now)) (sym is) (record { source = keeps.source_steady; files = keeps.files_steady; out = still })

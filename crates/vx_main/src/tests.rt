@@ -556,6 +556,38 @@ fn values_of_metadata_are_printed(rt: HostRuntime) -> Result<(), Fail> {
     Ok(())
 }
 
+#[test]
+fn a_postscript_that_is_too_long_is_refused_after_one_read(rt: HostRuntime) -> Result<(), Fail> {
+    let alloc = rt.alloc();
+    let rows: [(&[&str], bool, u8, &str); 3] = [
+        (&["serve", "four"], false, 4, "vx: PostscriptTooLong\n"),
+        (
+            &["serve", "four", "--initial", "69000"],
+            false,
+            4,
+            "vx: PostscriptTooLong\n",
+        ),
+        (
+            &["serve", "four"],
+            true,
+            5,
+            "vx: read ReadFault 4465 65535\n",
+        ),
+    ];
+    for (words, fails, status, line) in rows {
+        let mut file = line_feeds(alloc, 70_000)?;
+        let marker = [0x01, 0x00, 0xf8, 0xff, 0x56, 0x54, 0x58, 0x46];
+        put(file.as_mut_slice(), 69_992, &marker);
+        let mut failing = Failing::nowhere(alloc);
+        if fails {
+            failing.reads = mischief(alloc, 0, MischiefKind::Fail)?;
+        }
+        let left = run_over(alloc, words, Vec::new(alloc), file, failing)?;
+        assert!(rt; left.is(status, "", line));
+    }
+    Ok(())
+}
+
 // The file without its type.
 fn untyped(alloc: Global) -> Result<Vec<u8>, Fail> {
     let mut file = four(alloc)?;
