@@ -183,7 +183,8 @@ fn a_file_in_memory_is_opened(rt: HostRuntime) -> Result<(), Fail> {
     assert!(rt; opened.metadata_segment("by").is_none());
     let footer = opened.footer().share(alloc)?;
     let known = session.open_options(alloc)?.with_footer(alloc, footer)?;
-    let short = file.slice(alloc, 0..25)?;
+    let zeros = Vec::from_slice(alloc, &[0; 25])?;
+    let short = ByteBuffer::from_vec(alloc, zeros, Alignment::none())?;
     let refused = known.open_buffer(alloc, short).err();
     assert!(rt; refused == Some(ServeError::Open(OpenError::PastEnd)));
     Ok(())
