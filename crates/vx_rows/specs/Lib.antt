@@ -12,3 +12,6 @@ pub mod ReadRows
 pub mod Kept
 pub mod Builders
 pub mod PrintedRows
+pub mod Parts
+pub mod RowStats
+pub mod LayoutRows

@@ -1,5 +1,5 @@
 //! Truth values in a bitmap.
-ghost use Rattle.std.specs.Prelude.{◌≡◌, ◌++◌, ◌+◌, ◌*◌, ◌<◌, ◌≤◌, ◌^◌, length, slice_index_or, true, false, IfOk, OnOk};
+ghost use Rattle.std.specs.Prelude.{◌≡◌, ◌++◌, ◌+◌, ◌*◌, ◌<◌, ◌≤◌, ◌^◌, length, slice_index_or, slice_range, true, false, IfOk, OnOk};
 ghost use Rattle.std.specs.List.{list_all};
 ghost use Rattle.vx_rows.specs.Span.{span, every};
 ghost use Rattle.vx_rows.specs.Bits.{bit, bit_value, bitmap_byte, bitmap_size, bitmap};
@@ -196,5 +196,19 @@ impl Bits {
             bytes.push(self.byte(k))?;
         }
         Ok(())
+    }
+
+    /// The rows from one on, up to another. Only memory refuses.
+    pub(crate) fn part(&self, alloc: Global, from: usize, to: usize) -> Result<Bits, AllocError>
+        requires ordered { from ≤ to }
+        requires inside { to ≤ length self.now }
+        ensures { IfOk result (λ bits. bits ≡ slice_range self.now from to) }
+    {
+        Ok(Bits {
+            held: self.held.share(alloc)?,
+            at: self.at,
+            first: self.first + from,
+            count: to - from,
+        })
     }
 }

@@ -1,14 +1,17 @@
 //! Columns of truth values that grow row by row.
-ghost use Rattle.std.specs.Prelude.{ℕ, List, ◌≡◌, ◌||◌, not, [], true, false, Some, None, if◌then◌else◌, IfOk, OnOk};
+ghost use Rattle.std.specs.Prelude.{ℕ, List, ◌≡◌, ◌-◌, ◌^◌, ◌++◌, ◌||◌, length, min, take, not, [], true, false, Some, None, if◌then◌else◌, IfOk, OnOk};
 ghost use Rattle.vx_base.specs.Checks.{Gives, ◌lacking◌};
 ghost use Rattle.std.specs.Option.{option_map};
 ghost use Rattle.vx_data.specs.declared.text_error.TextError.TheVariants.{BadText};
 ghost use Rattle.vx_data.specs.TextsRead.{FailsToRead};
-ghost use Rattle.vx_rows.specs.Columns.{Bools};
+ghost use Rattle.vx_rows.specs.Columns.{Bools, may_hold};
+ghost use Rattle.vx_rows.specs.Rows.{bools};
+ghost use Rattle.vx_rows.specs.Parts.{plain_size};
 ghost use Rattle.vx_rows.specs.ReadValues.{optional_in, truth_in};
 ghost use Rattle.vx_rows.specs.ReadRows.{more_bools, null_or};
 
 use crate::flags::Flags;
+use crate::plain_size::size_of_bools;
 use crate::value_reading::{read_null, read_truth};
 use crate::{Bits, BoolColumn};
 use std::alloc::{AllocError, Global};
@@ -95,6 +98,48 @@ impl BoolBuilder {
     /// The column of the rows.
     pub fn finish(self, alloc: Global) -> Result<BoolColumn, AllocError>
         ensures { IfOk result (λ column. column ≡ self) }
+    {
+        Ok(self.to_column(alloc)?)
+    }
+
+    /// The number of rows.
+    pub fn len(&self) -> usize
+        ensures { result ≡ length self.now.rows }
+    {
+        self.values.len()
+    }
+
+    /// Adds the rows of a column. Only memory refuses, and then some of them may be there.
+    pub fn append(&mut self, column: &BoolColumn) -> Result<(), AllocError>
+        requires { may_hold self.old.nullable column.now.rows ≡ true }
+        ensures ok { OnOk result (self.new ≡ record self.old { rows = self.old.rows ++ column.now.rows }) }
+        ensures kept { record self.new { rows = take (length self.old.rows) self.new.rows } ≡ self.old }
+    {
+        for row in 0..column.len() {
+            let value = column.get(row);
+            self.push_row(value.is_some(), value.unwrap_or(false))?;
+        }
+        Ok(())
+    }
+
+    /// Keeps so many rows.
+    pub fn truncate(&mut self, rows: usize)
+        ensures { self.new ≡ record self.old { rows = take rows self.old.rows } }
+    {
+        self.present.truncate(rows);
+        self.values.truncate(rows);
+    }
+
+    /// How many bytes the rows take, written plainly.
+    pub fn plain_size(&self) -> u64
+        ensures { result ≡ min (plain_size (bools self.now)) (2 ^ 64 - 1) }
+    {
+        size_of_bools(self.present.is_nullable(), self.values.len())
+    }
+
+    /// A column of the rows so far. Only memory refuses.
+    pub fn to_column(&self, alloc: Global) -> Result<BoolColumn, AllocError>
+        ensures { IfOk result (λ column. column ≡ self.now) }
     {
         let bits = self.present.to_bits(alloc)?;
         let values = Bits::from_rows(alloc, &self.values)?;

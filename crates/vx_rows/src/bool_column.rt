@@ -1,13 +1,17 @@
 //! Columns of truth values.
-ghost use Rattle.std.specs.Prelude.{◌≡◌, ◌++◌, ◌<◌, length, slice_index_or, is_some, IfSome, Some, None, true, OnOk};
+ghost use Rattle.std.specs.Prelude.{◌≡◌, ◌++◌, ◌-◌, ◌^◌, ◌<◌, ◌≤◌, length, map, min, slice_index_or, slice_range, is_some, IfOk, IfSome, Some, None, true, OnOk};
 ghost use Rattle.vx_rows.specs.Span.{span, every};
-ghost use Rattle.vx_rows.specs.Columns.{bool_row, is_false_row};
+ghost use Rattle.vx_rows.specs.Columns.{bool_row, is_false_row, may_hold};
+ghost use Rattle.vx_rows.specs.Rows.{bools};
+ghost use Rattle.vx_rows.specs.Parts.{plain_size};
 ghost use Rattle.vx_rows.specs.Written.{bools_bytes};
 
 use crate::Bits;
 use crate::int_column::has_value;
+use crate::parts::{are_all_present, flags_of, part_of};
+use crate::plain_size::size_of_bools;
 use crate::presence::push_presence;
-use std::alloc::AllocError;
+use std::alloc::{AllocError, Global};
 use std::marker::Model;
 
 /// Truth values, some of which may be null.
@@ -104,5 +108,42 @@ impl BoolColumn {
         push_presence(bytes, self.may_be_null, &self.present, self.values.len())?;
         self.values.push_bytes(bytes)?;
         Ok(())
+    }
+
+    /// The rows from one on, up to another. Only memory refuses.
+    pub(crate) fn part(
+        &self,
+        alloc: Global,
+        from: usize,
+        to: usize,
+    ) -> Result<BoolColumn, AllocError>
+        requires ordered { from ≤ to }
+        requires inside { to ≤ length self.now.rows }
+        ensures { IfOk result (λ column. column ≡ record self.now { rows = slice_range self.now.rows from to }) }
+    {
+        let present = part_of(alloc, &self.present, from, to)?;
+        let values = self.values.part(alloc, from, to)?;
+        Ok(BoolColumn::new(self.may_be_null, present, values))
+    }
+
+    /// Whether no row is missing where none may be null.
+    pub(crate) fn is_filled(&self) -> bool
+        ensures { result ≡ may_hold self.now.nullable self.now.rows }
+    {
+        self.may_be_null || are_all_present(&self.present)
+    }
+
+    /// How many bytes the rows take, written plainly.
+    pub(crate) fn plain_size(&self) -> u64
+        ensures { result ≡ min (plain_size (bools self.now)) (2 ^ 64 - 1) }
+    {
+        size_of_bools(self.may_be_null, self.len())
+    }
+
+    /// Which rows have a value. Only memory refuses.
+    pub(crate) fn flags(&self, alloc: Global) -> Result<Vec<bool>, AllocError>
+        ensures { IfOk result (λ flags. flags.items ≡ map is_some self.now.rows) }
+    {
+        Ok(flags_of(alloc, &self.present, self.len())?)
     }
 }

@@ -1,5 +1,5 @@
 //! Which rows of a column that grows are not null.
-ghost use Rattle.std.specs.Prelude.{◌≡◌, ◌++◌, ◌∷◌, [], ◌||◌, true, length, IfOk, OnOk, OnErr};
+ghost use Rattle.std.specs.Prelude.{◌≡◌, ◌++◌, ◌∷◌, [], ◌||◌, ◌<◌, true, take, length, slice_index_or, IfOk, OnOk, OnErr};
 ghost use Rattle.vx_rows.specs.Columns.{Structs, are_there};
 ghost use Rattle.vx_rows.specs.ReadRows.{more_structs};
 ghost use Rattle.vx_rows.specs.Kept.{kept};
@@ -83,5 +83,31 @@ impl Flags {
     {
         let bits = self.to_bits(alloc)?;
         Ok(StructRows::new(self.may_be_null, bits, self.flags.len()))
+    }
+
+    /// Adds rows, null only where they may be. Only memory refuses, and then nothing changes.
+    pub fn append(&mut self, flags: &[bool]) -> Result<(), AllocError>
+        requires { are_there self.old.nullable flags.now ≡ true }
+        ensures ok { OnOk result (self.new ≡ record self.old { present = self.old.present ++ flags.now }) }
+        ensures err { OnErr result (self.new ≡ self.old) }
+    {
+        self.flags.extend_from_slice(flags)?;
+        Ok(())
+    }
+
+    /// Keeps so many rows.
+    pub fn truncate(&mut self, rows: usize)
+        ensures { self.new ≡ record self.old { present = take rows self.old.present } }
+    {
+        self.flags.truncate(rows);
+    }
+
+    /// Whether a row is not null.
+    #[inline(always)]
+    pub fn is_there(&self, row: usize) -> bool
+        requires { row < length self.now.present }
+        ensures { result ≡ slice_index_or self.now.present row true }
+    {
+        self.flags[row]
     }
 }

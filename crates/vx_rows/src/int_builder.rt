@@ -1,17 +1,21 @@
 //! Columns of integers that grow row by row.
-ghost use Rattle.std.specs.Prelude.{ℕ, List, ◌≡◌, ◌||◌, [], pos, true, Some, None, is_some, IfOk, IfSome, OnOk};
+ghost use Rattle.std.specs.Prelude.{ℕ, List, ◌≡◌, ◌-◌, ◌^◌, ◌++◌, ◌||◌, length, min, take, [], pos, true, Some, None, is_some, IfOk, IfSome, OnOk};
 ghost use Rattle.vx_base.specs.Checks.{Gives, ◌lacking◌};
 ghost use Rattle.std.specs.Option.{option_map};
 ghost use Rattle.vx_data.specs.declared.text_error.TextError.TheVariants.{BadText};
 ghost use Rattle.vx_data.specs.TextsRead.{FailsToRead};
 ghost use Rattle.vx_rows.specs.Written.{is_within};
-ghost use Rattle.vx_rows.specs.Columns.{Ints};
+ghost use Rattle.vx_rows.specs.Columns.{Ints, may_hold};
+ghost use Rattle.vx_rows.specs.Rows.{ints, AreWithin};
+ghost use Rattle.vx_rows.specs.Parts.{plain_size};
 ghost use Rattle.vx_rows.specs.ReadValues.{optional_in, number_in};
 ghost use Rattle.vx_rows.specs.ReadRows.{more_ints, null_or};
 
 use crate::IntColumn;
 use crate::cells::push_cell;
 use crate::flags::Flags;
+use crate::int_column::place_of;
+use crate::plain_size::size_of_ints;
 use crate::value_reading::{read_null, read_number};
 use std::alloc::{AllocError, Global};
 use std::marker::Model;
@@ -120,6 +124,68 @@ impl IntBuilder {
             &held,
             0,
             present.len(),
+        )?;
+        Ok(column)
+    }
+
+    /// The number of rows.
+    pub fn len(&self) -> usize
+        ensures { result ≡ length self.now.rows }
+    {
+        self.present.len()
+    }
+
+    /// Adds the rows of a column. Only memory refuses, and then nothing changes.
+    pub fn append(&mut self, alloc: Global, column: &IntColumn) -> Result<(), AllocError>
+        requires same { column.now.ptype ≡ self.old.ptype }
+        requires allowed { may_hold self.old.nullable column.now.rows ≡ true }
+        requires within { AreWithin self.old.ptype column.now.rows }
+        ensures ok { OnOk result (self.new ≡ record self.old { rows = self.old.rows ++ column.now.rows }) }
+        ensures kept { record self.new { rows = take (length self.old.rows) self.new.rows } ≡ self.old }
+    {
+        let flags = column.flags(alloc)?;
+        let before = self.bytes.len();
+        column.push_cells(&mut self.bytes)?;
+        match self.present.append(&flags) {
+            Ok(()) => Ok(()),
+            Err(error) => {
+                self.bytes.truncate(before);
+                Err(error)
+            }
+        }
+    }
+
+    /// Keeps so many rows.
+    pub fn truncate(&mut self, rows: usize)
+        ensures { self.new ≡ record self.old { rows = take rows self.old.rows } }
+    {
+        let kept = rows.min(self.present.len());
+        self.present.truncate(kept);
+        self.bytes.truncate(place_of(self.kind, 0, kept));
+    }
+
+    /// How many bytes the rows take, written plainly.
+    pub fn plain_size(&self) -> u64
+        ensures { result ≡ min (plain_size (ints self.now)) (2 ^ 64 - 1) }
+    {
+        size_of_ints(self.kind, self.present.is_nullable(), self.present.len())
+    }
+
+    /// A column of the rows so far. Only memory refuses.
+    pub fn to_column(&self, alloc: Global) -> Result<IntColumn, AllocError>
+        ensures { IfOk result (λ column. column ≡ self.now) }
+    {
+        let bits = self.present.to_bits(alloc)?;
+        let bytes = Vec::from_slice(alloc, &self.bytes)?;
+        let held = ByteBuffer::from_vec(alloc, bytes, Alignment::none())?;
+        let column = IntColumn::new(
+            alloc,
+            self.kind,
+            self.present.is_nullable(),
+            bits,
+            &held,
+            0,
+            self.present.len(),
         )?;
         Ok(column)
     }

@@ -1,14 +1,18 @@
 //! Columns of integers.
-ghost use Rattle.std.specs.Prelude.{◌≡◌, ◌++◌, ◌+◌, ◌*◌, ◌<◌, ◌≤◌, ◌==◌, ◌^◌, OnOk, length};
+ghost use Rattle.std.specs.Prelude.{◌≡◌, ◌++◌, ◌+◌, ◌-◌, ◌*◌, ◌<◌, ◌≤◌, ◌==◌, ◌^◌, OnOk, OnErr, length, map, min, slice_range};
 ghost use Rattle.std.specs.Prelude.{slice_index_or, is_some, IsSome, IfOk, IfSome, Some, None, true, take, drop, pos};
 ghost use Rattle.std.specs.Int.{w8, w16, w32, w64, from_le_bytes, cast_signed};
 ghost use Rattle.std.specs.List.{flat_map};
 ghost use Rattle.vx_rows.specs.Span.{span, every};
 ghost use Rattle.vx_rows.specs.Bits.{present_at};
-ghost use Rattle.vx_rows.specs.Columns.{value_size, value_place, raw_at, value_of, int_row, is_clear};
+ghost use Rattle.vx_rows.specs.Columns.{value_size, value_place, raw_at, value_of, int_row, is_clear, may_hold};
+ghost use Rattle.vx_rows.specs.Rows.{ints, AreWithin};
+ghost use Rattle.vx_rows.specs.Parts.{plain_size};
 ghost use Rattle.vx_rows.specs.Written.{cell, ints_bytes};
 
 use crate::Bits;
+use crate::parts::{are_all_present, flags_of, part_of};
+use crate::plain_size::size_of_ints;
 use crate::presence::push_presence;
 use std::alloc::{AllocError, Global};
 use std::marker::Model;
@@ -202,10 +206,19 @@ fn push_values(
     requires inside { value_place kind at count ≤ length held.now }
     requires bound { length held.now < 2 ^ 63 }
     requires clear { every (is_clear kind present.now held.now at) 0 count ≡ true }
-    ensures { OnOk result (bytes.new.items ≡ bytes.old.items ++ flat_map (cell kind) (span (int_row kind present.now held.now at) 0 count)) }
+    ensures ok { OnOk result (bytes.new.items ≡ bytes.old.items ++ flat_map (cell kind) (span (int_row kind present.now held.now at) 0 count)) }
+    ensures err { OnErr result (bytes.new.items ≡ bytes.old.items) }
 {
     let end = place_of(kind, at, count);
     bytes.extend_from_slice(&held[at..end])
+}
+
+/// Each value that bytes hold is in the range of its type.
+fn are_within(kind: PType, present: &Option<Bits>, bytes: &[u8], at: usize, count: usize)
+    requires { value_place kind at count ≤ length bytes.now }
+    ensures { AreWithin kind (span (int_row kind present.now bytes.now at) 0 count) }
+{
+    let _ = (kind, present, bytes, at, count);
 }
 
 impl IntColumn {
@@ -315,5 +328,74 @@ impl IntColumn {
             self.count,
         )?;
         Ok(())
+    }
+
+    /// The rows from one on, up to another. Only memory refuses.
+    pub(crate) fn part(
+        &self,
+        alloc: Global,
+        from: usize,
+        to: usize,
+    ) -> Result<IntColumn, AllocError>
+        requires ordered { from ≤ to }
+        requires inside { to ≤ length self.now.rows }
+        ensures { IfOk result (λ column. column ≡ record self.now { rows = slice_range self.now.rows from to }) }
+    {
+        let present = part_of(alloc, &self.present, from, to)?;
+        let place = place_of(self.kind, self.at, from);
+        let column = IntColumn::new(
+            alloc,
+            self.kind,
+            self.may_be_null,
+            present,
+            &self.held,
+            place,
+            to - from,
+        )?;
+        Ok(column)
+    }
+
+    /// Whether no row is missing where none may be null. Each value is in the range of the type.
+    pub(crate) fn is_filled(&self) -> bool
+        ensures value { result ≡ may_hold self.now.nullable self.now.rows }
+        ensures within { AreWithin self.now.ptype self.now.rows }
+    {
+        are_within(
+            self.kind,
+            &self.present,
+            self.held.as_slice(),
+            self.at,
+            self.count,
+        );
+        self.may_be_null || are_all_present(&self.present)
+    }
+
+    /// How many bytes the rows take, written plainly.
+    pub(crate) fn plain_size(&self) -> u64
+        ensures { result ≡ min (plain_size (ints self.now)) (2 ^ 64 - 1) }
+    {
+        size_of_ints(self.kind, self.may_be_null, self.len())
+    }
+
+    /// Adds the bytes of the values, among which those of null rows are 0.
+    pub(crate) fn push_cells(&self, bytes: &mut Vec<u8>) -> Result<(), AllocError>
+        ensures ok { OnOk result (bytes.new.items ≡ bytes.old.items ++ flat_map (cell self.now.ptype) self.now.rows) }
+        ensures err { OnErr result (bytes.new.items ≡ bytes.old.items) }
+    {
+        push_values(
+            bytes,
+            self.kind,
+            &self.present,
+            self.held.as_slice(),
+            self.at,
+            self.count,
+        )
+    }
+
+    /// Which rows have a value. Only memory refuses.
+    pub(crate) fn flags(&self, alloc: Global) -> Result<Vec<bool>, AllocError>
+        ensures { IfOk result (λ flags. flags.items ≡ map is_some self.now.rows) }
+    {
+        Ok(flags_of(alloc, &self.present, self.len())?)
     }
 }

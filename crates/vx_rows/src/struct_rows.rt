@@ -1,13 +1,15 @@
 //! Which structs of a column are not null.
-ghost use Rattle.std.specs.Prelude.{◌≡◌, ◌++◌, ◌<◌, length, slice_index_or, IfSome, true, OnOk};
+ghost use Rattle.std.specs.Prelude.{◌≡◌, ◌++◌, ◌<◌, ◌≤◌, length, slice_index_or, slice_range, IfOk, IfSome, true, OnOk};
+ghost use Rattle.vx_rows.specs.Columns.{are_there};
 ghost use Rattle.vx_rows.specs.Span.{span};
 ghost use Rattle.vx_rows.specs.Bits.{present_at};
 ghost use Rattle.vx_rows.specs.Written.{presence_bytes};
 
-use crate::Bits;
 use crate::int_column::has_value;
+use crate::parts::{are_all_present, flags_of, part_of};
 use crate::presence::push_presence;
-use std::alloc::AllocError;
+use crate::{Bits, Mask};
+use std::alloc::{AllocError, Global};
 use std::marker::Model;
 
 /// Which structs are not null.
@@ -88,5 +90,51 @@ impl StructRows {
         ensures { OnOk result (bytes.new.items ≡ bytes.old.items ++ presence_bytes self.now.nullable self.now.present) }
     {
         push_presence(bytes, self.may_be_null, &self.bits, self.count)
+    }
+
+    /// The rows from one on, up to another. Only memory refuses.
+    pub(crate) fn part(
+        &self,
+        alloc: Global,
+        from: usize,
+        to: usize,
+    ) -> Result<StructRows, AllocError>
+        requires ordered { from ≤ to }
+        requires inside { to ≤ length self.now.present }
+        ensures { IfOk result (λ rows. rows ≡ record self.now { present = slice_range self.now.present from to }) }
+    {
+        let bits = part_of(alloc, &self.bits, from, to)?;
+        Ok(StructRows::new(self.may_be_null, bits, to - from))
+    }
+
+    /// Whether no row is missing where none may be null.
+    pub(crate) fn is_filled(&self) -> bool
+        ensures { result ≡ are_there self.now.nullable self.now.present }
+    {
+        self.may_be_null || are_all_present(&self.bits)
+    }
+
+    /// Which rows are not null, as a mask. Only memory refuses.
+    pub fn mask(&self, alloc: Global) -> Result<Mask, AllocError>
+        ensures { IfOk result (λ mask. mask ≡ self.now.present) }
+    {
+        Ok(Mask::new(self.flags(alloc)?))
+    }
+
+    /// Which rows are not null, as bits. Only memory refuses.
+    pub(crate) fn to_bits(&self, alloc: Global) -> Result<Bits, AllocError>
+        ensures { IfOk result (λ bits. bits ≡ self.now.present) }
+    {
+        match &self.bits {
+            Some(bits) => Ok(bits.part(alloc, 0, self.count)?),
+            None => Ok(Bits::from_rows(alloc, &self.flags(alloc)?)?),
+        }
+    }
+
+    /// Which rows are not null. Only memory refuses.
+    pub(crate) fn flags(&self, alloc: Global) -> Result<Vec<bool>, AllocError>
+        ensures { IfOk result (λ flags. flags.items ≡ self.now.present) }
+    {
+        Ok(flags_of(alloc, &self.bits, self.count)?)
     }
 }

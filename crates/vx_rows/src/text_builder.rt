@@ -1,15 +1,19 @@
 //! Columns of texts that grow row by row.
-ghost use Rattle.std.specs.Prelude.{ℕ, List, ◌≡◌, ◌||◌, ◌++◌, ◌∷◌, [], length, true, Some, None, if◌then◌else◌, IfOk, OnOk, OnErr};
+ghost use Rattle.std.specs.Prelude.{ℕ, List, ◌≡◌, ◌-◌, ◌^◌, ◌<◌, ◌||◌, ◌++◌, ◌∷◌, [], length, min, take, sum_by, slice_index_or, true, Some, None, if◌then◌else◌, IfOk, OnOk, OnErr};
 ghost use Rattle.vx_base.specs.Checks.{Gives, ◌lacking◌};
 ghost use Rattle.std.specs.Option.{option_map};
 ghost use Rattle.vx_data.specs.declared.text_error.TextError.TheVariants.{BadText};
 ghost use Rattle.vx_data.specs.TextsRead.{FailsToRead, quoted_in};
-ghost use Rattle.vx_rows.specs.Columns.{Texts};
+ghost use Rattle.vx_rows.specs.Columns.{Texts, may_hold};
+ghost use Rattle.vx_rows.specs.Rows.{texts};
+ghost use Rattle.vx_rows.specs.Written.{text_bytes};
+ghost use Rattle.vx_rows.specs.Parts.{plain_size};
 ghost use Rattle.vx_rows.specs.ReadValues.{optional_in};
 ghost use Rattle.vx_rows.specs.ReadRows.{more_texts, null_or};
 
 use crate::TextColumn;
 use crate::flags::Flags;
+use crate::plain_size::size_of_texts;
 use crate::value_reading::{read_null, read_plain};
 use std::alloc::{AllocError, Global};
 use std::marker::Model;
@@ -135,6 +139,88 @@ impl TextBuilder {
             &held,
             places,
             present.len(),
+        )?;
+        Ok(column)
+    }
+
+    /// The number of rows.
+    pub fn len(&self) -> usize
+        ensures { result ≡ length self.now.rows }
+    {
+        self.present.len()
+    }
+
+    /// Adds the rows of a column. Only memory refuses, and then some of them may be there.
+    pub fn append(&mut self, column: &TextColumn) -> Result<(), AllocError>
+        requires { may_hold self.old.nullable column.now.rows ≡ true }
+        ensures ok { OnOk result (self.new ≡ record self.old { rows = self.old.rows ++ column.now.rows }) }
+        ensures kept { record self.new { rows = take (length self.old.rows) self.new.rows } ≡ self.old }
+    {
+        for row in 0..column.len() {
+            self.push_row(column.is_present(row), column.text_or_empty(row))?;
+        }
+        Ok(())
+    }
+
+    /// Keeps so many rows.
+    pub fn truncate(&mut self, rows: usize)
+        ensures { self.new ≡ record self.old { rows = take rows self.old.rows } }
+    {
+        let kept = rows.min(self.present.len());
+        self.present.truncate(kept);
+        self.bytes.truncate(self.places[kept]);
+        self.places.truncate(kept + 1);
+    }
+
+    /// How many bytes the text of a row has; none where there is no text.
+    fn length_at(&self, row: usize) -> usize
+        requires { row < length self.now.rows }
+        ensures { result ≡ length (text_bytes (slice_index_or self.now.rows row None)) }
+    {
+        if self.present.is_there(row) {
+            self.places[row + 1] - self.places[row]
+        } else {
+            0
+        }
+    }
+
+    /// How many bytes the texts have.
+    fn bytes_len(&self) -> u64
+        ensures { result ≡ min (sum_by (λ row. length (text_bytes row)) self.now.rows) (2 ^ 64 - 1) }
+    {
+        let mut size: u64 = 0;
+        for row in 0..self.present.len() {
+            size = size.saturating_add(self.length_at(row) as u64);
+        }
+        size
+    }
+
+    /// How many bytes the rows take, written plainly.
+    pub fn plain_size(&self) -> u64
+        ensures { result ≡ min (plain_size (texts self.now)) (2 ^ 64 - 1) }
+    {
+        size_of_texts(
+            self.present.is_nullable(),
+            self.present.len(),
+            self.bytes_len(),
+        )
+    }
+
+    /// A column of the rows so far. Only memory refuses.
+    pub fn to_column(&self, alloc: Global) -> Result<TextColumn, AllocError>
+        ensures { IfOk result (λ column. column ≡ self.now) }
+    {
+        let bits = self.present.to_bits(alloc)?;
+        let bytes = Vec::from_slice(alloc, &self.bytes)?;
+        let places = Vec::from_slice(alloc, &self.places)?;
+        let held = ByteBuffer::from_vec(alloc, bytes, Alignment::none())?;
+        let column = TextColumn::new(
+            alloc,
+            self.present.is_nullable(),
+            bits,
+            &held,
+            places,
+            self.present.len(),
         )?;
         Ok(column)
     }

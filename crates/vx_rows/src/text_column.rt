@@ -1,15 +1,19 @@
 //! Columns of texts.
-ghost use Rattle.std.specs.Prelude.{◌≡◌, ◌++◌, ◌+◌, ◌%◌, ◌<◌, ◌≤◌, ◌^◌, length, slice_index};
+ghost use Rattle.std.specs.Prelude.{◌≡◌, ◌++◌, ◌+◌, ◌-◌, ◌%◌, ◌<◌, ◌≤◌, ◌^◌, length, map, min, sum_by, slice_index};
 ghost use Rattle.std.specs.Prelude.{slice_index_or, slice_range, is_some, IfOk, IfSome, Some, None, true, option_map, OnOk};
 ghost use Rattle.std.specs.Str.{IsUtf8};
 ghost use Rattle.vx_rows.specs.Span.{span};
-ghost use Rattle.vx_rows.specs.Columns.{text_row, AreRanges, AreTexts};
+ghost use Rattle.vx_rows.specs.Columns.{text_row, AreRanges, AreTexts, may_hold};
+ghost use Rattle.vx_rows.specs.Rows.{texts, AreUtf8};
+ghost use Rattle.vx_rows.specs.Parts.{plain_size};
 ghost use Rattle.vx_rows.specs.Written.{text_bytes, length_bytes, texts_bytes};
 ghost use Rattle.std.specs.List.{flat_map};
 ghost use Rattle.std.specs.Int.{w32, to_le_bytes};
 
 use crate::Bits;
 use crate::int_column::has_value;
+use crate::parts::{are_all_present, flags_of, part_of};
+use crate::plain_size::size_of_texts;
 use crate::presence::push_presence;
 use std::alloc::{AllocError, Global};
 use std::marker::Model;
@@ -153,7 +157,7 @@ impl TextColumn {
 
     /// The value of a row, or the empty text where it has none.
     #[inline(always)]
-    fn text_or_empty(&self, row: usize) -> &str
+    pub(crate) fn text_or_empty(&self, row: usize) -> &str
         requires { row < length self.now.rows }
         ensures { result.now ≡ text_bytes (slice_index_or self.now.rows row None) }
     {
@@ -194,5 +198,62 @@ impl TextColumn {
         self.push_lengths(bytes)?;
         self.push_texts(bytes)?;
         Ok(())
+    }
+
+    /// The rows from one on, up to another. Only memory refuses.
+    pub(crate) fn part(
+        &self,
+        alloc: Global,
+        from: usize,
+        to: usize,
+    ) -> Result<TextColumn, AllocError>
+        requires ordered { from ≤ to }
+        requires inside { to ≤ length self.now.rows }
+        ensures { IfOk result (λ column. column ≡ record self.now { rows = slice_range self.now.rows from to }) }
+    {
+        let present = part_of(alloc, &self.present, from, to)?;
+        let places = Vec::from_slice(alloc, &self.places[from..to + 1])?;
+        let column = TextColumn::new(
+            alloc,
+            self.may_be_null,
+            present,
+            &self.held,
+            places,
+            to - from,
+        )?;
+        Ok(column)
+    }
+
+    /// Whether no row is missing where none may be null. Each value is a text.
+    pub(crate) fn is_filled(&self) -> bool
+        ensures value { result ≡ may_hold self.now.nullable self.now.rows }
+        ensures texts { AreUtf8 self.now.rows }
+    {
+        self.may_be_null || are_all_present(&self.present)
+    }
+
+    /// How many bytes the texts have.
+    fn bytes_len(&self) -> u64
+        ensures { result ≡ min (sum_by (λ row. length (text_bytes row)) self.now.rows) (2 ^ 64 - 1) }
+    {
+        let mut size: u64 = 0;
+        for row in 0..self.len() {
+            size = size.saturating_add(self.text_or_empty(row).len() as u64);
+        }
+        size
+    }
+
+    /// How many bytes the rows take, written plainly.
+    pub(crate) fn plain_size(&self) -> u64
+        ensures { result ≡ min (plain_size (texts self.now)) (2 ^ 64 - 1) }
+    {
+        size_of_texts(self.may_be_null, self.len(), self.bytes_len())
+    }
+
+    /// Which rows have a value. Only memory refuses.
+    pub(crate) fn flags(&self, alloc: Global) -> Result<Vec<bool>, AllocError>
+        ensures { IfOk result (λ flags. flags.items ≡ map is_some self.now.rows) }
+    {
+        Ok(flags_of(alloc, &self.present, self.len())?)
     }
 }

@@ -1,0 +1,290 @@
+//! The least and the greatest value of the rows of a column, and how many of them are null.
+ghost use Rattle.std.specs.Prelude.{◌≡◌, ◌<◌, length, slice_index_or, not, is_some, if◌then◌else◌, None, IfOk, map};
+ghost use Rattle.std.specs.Option.{option_map};
+ghost use Rattle.std.specs.Ordering.{bool_cmp, int_cmp};
+ghost use Rattle.vx_data.specs.Scalar.{scalar_view, words};
+ghost use Rattle.vx_rows.specs.Rows.{bools, ints, texts, structs, rows_len, column_view, columns_view};
+ghost use Rattle.vx_rows.specs.RowStats.{lesser_of, greater_of, masked, there, text_cmp, value_cmp, summary};
+
+use crate::{BoolColumn, Column, Columns, IntColumn, Mask, StructRows, TextColumn};
+use std::alloc::{AllocError, Global};
+use std::cmp::Ordering;
+use std::marker::Model;
+use vx_data::Scalar;
+
+/// The least and the greatest value of rows, and how many rows are null.
+#[derive(Drop)]
+pub struct Extent {
+    pub min: Option<Scalar>,
+    pub max: Option<Scalar>,
+    pub nulls: u64,
+}
+
+impl Model for Extent {
+    ghost use Rattle.std.specs.Option.{option_map};
+    ghost use Rattle.vx_data.specs.Scalar.{scalar_view};
+    ghost use Rattle.vx_rows.specs.RowStats.{Summary};
+
+    ghost Value = { Summary };
+
+    ghost view = { λ e. record { min = option_map scalar_view e.min; max = option_map scalar_view e.max; nulls = e.nulls } };
+}
+
+// ---- the lesser and the greater of two values
+
+fn lesser_flag(a: Option<bool>, b: Option<bool>) -> Option<bool>
+    ensures { result ≡ lesser_of bool_cmp a b }
+{
+    match (a, b) {
+        (Some(true), Some(false)) => b,
+        (None, _) => b,
+        _ => a,
+    }
+}
+
+fn greater_flag(a: Option<bool>, b: Option<bool>) -> Option<bool>
+    ensures { result ≡ greater_of bool_cmp a b }
+{
+    match (a, b) {
+        (Some(false), Some(true)) => b,
+        (None, _) => b,
+        _ => a,
+    }
+}
+
+fn lesser_number(a: Option<i128>, b: Option<i128>) -> Option<i128>
+    ensures { result ≡ lesser_of int_cmp a b }
+{
+    let (Some(first), Some(second)) = (a, b) else {
+        return a.or(b);
+    };
+    if second < first { b } else { a }
+}
+
+fn greater_number(a: Option<i128>, b: Option<i128>) -> Option<i128>
+    ensures { result ≡ greater_of int_cmp a b }
+{
+    let (Some(first), Some(second)) = (a, b) else {
+        return a.or(b);
+    };
+    if second > first { b } else { a }
+}
+
+fn lesser_text<'a>(a: Option<&'a str>, b: Option<&'a str>) -> Option<&'a str>
+    ensures { option_map (λ v. v.now) result ≡ lesser_of text_cmp (option_map (λ v. v.now) a) (option_map (λ v. v.now) b) }
+{
+    let (Some(first), Some(second)) = (a, b) else {
+        return a.or(b);
+    };
+    if second.cmp(first).is_lt() { b } else { a }
+}
+
+fn greater_text<'a>(a: Option<&'a str>, b: Option<&'a str>) -> Option<&'a str>
+    ensures { option_map (λ v. v.now) result ≡ greater_of text_cmp (option_map (λ v. v.now) a) (option_map (λ v. v.now) b) }
+{
+    let (Some(first), Some(second)) = (a, b) else {
+        return a.or(b);
+    };
+    if first.cmp(second).is_lt() { b } else { a }
+}
+
+/// How two values of one kind compare; values of different kinds compare as equal.
+fn compare(a: &Scalar, b: &Scalar) -> Ordering
+    ensures { result ≡ value_cmp (scalar_view a.now) (scalar_view b.now) }
+{
+    match (a, b) {
+        (Scalar::Bool(a), Scalar::Bool(b)) => a.cmp(b),
+        (Scalar::Int(a), Scalar::Int(b)) => a.cmp(b),
+        (Scalar::Text(a), Scalar::Text(b)) => a.as_str().cmp(b.as_str()),
+        _ => Ordering::Equal,
+    }
+}
+
+/// The lesser of two values, or the first where they compare as equal.
+pub fn lesser(a: Option<Scalar>, b: Option<Scalar>) -> Option<Scalar>
+    ensures { option_map scalar_view result ≡ lesser_of value_cmp (option_map scalar_view a) (option_map scalar_view b) }
+{
+    match (a, b) {
+        (None, other) => other,
+        (Some(first), None) => Some(first),
+        (Some(first), Some(second)) => {
+            if compare(&second, &first).is_lt() {
+                Some(second)
+            } else {
+                Some(first)
+            }
+        }
+    }
+}
+
+/// The greater of two values, or the first where they compare as equal.
+pub fn greater(a: Option<Scalar>, b: Option<Scalar>) -> Option<Scalar>
+    ensures { option_map scalar_view result ≡ greater_of value_cmp (option_map scalar_view a) (option_map scalar_view b) }
+{
+    match (a, b) {
+        (None, other) => other,
+        (Some(first), None) => Some(first),
+        (Some(first), Some(second)) => {
+            if compare(&first, &second).is_lt() {
+                Some(second)
+            } else {
+                Some(first)
+            }
+        }
+    }
+}
+
+// ---- the rows of a column
+
+fn one_if(is_null: bool) -> u64
+    ensures { result ≡ (if is_null then 1 else 0) }
+{
+    if is_null { 1 } else { 0 }
+}
+
+fn flag_at(column: &BoolColumn, present: &Mask, row: usize) -> Option<bool>
+    requires long { length present.now ≡ length column.now.rows }
+    requires inside { row < length column.now.rows }
+    ensures { result ≡ slice_index_or (masked present.now column.now.rows) row None }
+{
+    if present.get(row) {
+        column.get(row)
+    } else {
+        None
+    }
+}
+
+fn number_at(column: &IntColumn, present: &Mask, row: usize) -> Option<i128>
+    requires long { length present.now ≡ length column.now.rows }
+    requires inside { row < length column.now.rows }
+    ensures { result ≡ slice_index_or (masked present.now column.now.rows) row None }
+{
+    if present.get(row) {
+        column.get(row)
+    } else {
+        None
+    }
+}
+
+fn text_at<'a>(column: &'a TextColumn, present: &Mask, row: usize) -> Option<&'a str>
+    requires long { length present.now ≡ length column.now.rows }
+    requires inside { row < length column.now.rows }
+    ensures { option_map (λ v. v.now) result ≡ slice_index_or (masked present.now column.now.rows) row None }
+{
+    if present.get(row) {
+        column.get(row)
+    } else {
+        None
+    }
+}
+
+fn is_null_at(rows: &StructRows, present: &Mask, row: usize) -> bool
+    requires long { length present.now ≡ length rows.now.present }
+    requires inside { row < length rows.now.present }
+    ensures { result ≡ not (is_some (slice_index_or (masked present.now (map there rows.now.present)) row None)) }
+{
+    !(present.get(row) && rows.is_present(row))
+}
+
+/// Truth values.
+fn extent_of_flags(column: &BoolColumn, present: &Mask) -> Extent
+    requires { length present.now ≡ length column.now.rows }
+    ensures { result ≡ summary present.now (bools column.now) }
+{
+    let mut min = None;
+    let mut max = None;
+    let mut nulls = 0;
+    for row in 0..column.len() {
+        let value = flag_at(column, present, row);
+        min = lesser_flag(min, value);
+        max = greater_flag(max, value);
+        nulls += one_if(value.is_none());
+    }
+    Extent {
+        min: min.map(Scalar::Bool),
+        max: max.map(Scalar::Bool),
+        nulls,
+    }
+}
+
+/// Integers.
+fn extent_of_numbers(column: &IntColumn, present: &Mask) -> Extent
+    requires { length present.now ≡ length column.now.rows }
+    ensures { result ≡ summary present.now (ints column.now) }
+{
+    let mut min = None;
+    let mut max = None;
+    let mut nulls = 0;
+    for row in 0..column.len() {
+        let value = number_at(column, present, row);
+        min = lesser_number(min, value);
+        max = greater_number(max, value);
+        nulls += one_if(value.is_none());
+    }
+    Extent {
+        min: min.map(Scalar::Int),
+        max: max.map(Scalar::Int),
+        nulls,
+    }
+}
+
+/// A text of its own.
+fn owned(alloc: Global, text: Option<&str>) -> Result<Option<Scalar>, AllocError>
+    ensures { IfOk result (λ owned. option_map scalar_view owned ≡ option_map words (option_map (λ v. v.now) text)) }
+{
+    match text {
+        None => Ok(None),
+        Some(text) => Ok(Some(Scalar::Text(String::from_str(alloc, text)?))),
+    }
+}
+
+/// Texts.
+fn extent_of_texts(alloc: Global, column: &TextColumn, present: &Mask) -> Result<Extent, AllocError>
+    requires { length present.now ≡ length column.now.rows }
+    ensures { IfOk result (λ extent. extent ≡ summary present.now (texts column.now)) }
+{
+    let mut min = None;
+    let mut max = None;
+    let mut nulls = 0;
+    for row in 0..column.len() {
+        let value = text_at(column, present, row);
+        min = lesser_text(min, value);
+        max = greater_text(max, value);
+        nulls += one_if(value.is_none());
+    }
+    Ok(Extent {
+        min: owned(alloc, min)?,
+        max: owned(alloc, max)?,
+        nulls,
+    })
+}
+
+/// Structs, of which none is less than another.
+fn extent_of_structs(rows: &StructRows, fields: &Columns, present: &Mask) -> Extent
+    requires { length present.now ≡ length rows.now.present }
+    ensures { result ≡ summary present.now (structs rows.now (columns_view fields.now)) }
+{
+    let _ = fields;
+    let mut nulls = 0;
+    for row in 0..rows.len() {
+        nulls += one_if(is_null_at(rows, present, row));
+    }
+    Extent {
+        min: None,
+        max: None,
+        nulls,
+    }
+}
+
+/// The rows of a column; a row that is not present counts as null. Only memory refuses.
+pub fn extent_of(alloc: Global, column: &Column, present: &Mask) -> Result<Extent, AllocError>
+    requires { length present.now ≡ rows_len (column_view column.now) }
+    ensures { IfOk result (λ extent. extent ≡ summary present.now (column_view column.now)) }
+{
+    match column {
+        Column::Bool(column) => Ok(extent_of_flags(column, present)),
+        Column::Int(column) => Ok(extent_of_numbers(column, present)),
+        Column::Text(column) => Ok(extent_of_texts(alloc, column, present)?),
+        Column::Struct(rows, fields) => Ok(extent_of_structs(rows, fields, present)),
+    }
+}

@@ -1,0 +1,275 @@
+//! Columns that grow by parts of columns.
+ghost use Rattle.std.specs.Prelude.{◌≡◌, ◌≤◌, ◌-◌, ◌^◌, ℕ, min, IfOk, OnOk, OnErr};
+ghost use Rattle.vx_data.specs.Dtype.{dtype_view};
+ghost use Rattle.vx_rows.specs.Rows.{column_view, columns_view, pairs_view as columns_in, rows_len, dtype_of, types_of, IsColumn, AreColumns, HasRows, AllHaveRows};
+ghost use Rattle.vx_rows.specs.ReadRows.{no_rows};
+ghost use Rattle.vx_rows.specs.Builders.{builder_view, builders_view, pairs_view};
+ghost use Rattle.vx_rows.specs.Parts.{part, field_parts, appended, fields_appended, plain_size, fields_plain_size};
+
+use crate::builder::{Builder, Builders, begin, finish};
+use crate::plain_size::size_of_structs;
+use crate::{Column, Columns};
+use std::alloc::{AllocError, Global};
+use std::marker::Model;
+use vx_data::DType;
+
+/// The number of rows.
+fn len_of(builder: &Builder) -> usize
+    ensures { result ≡ rows_len (builder_view builder.now) }
+{
+    match builder {
+        Builder::Bool(rows) => rows.len(),
+        Builder::Int(rows) => rows.len(),
+        Builder::Text(rows) => rows.len(),
+        Builder::Struct(rows, _) => rows.len(),
+    }
+}
+
+/// Adds to each field the rows of a column.
+#[cycle(appending)]
+fn append_all(
+    alloc: Global,
+    builders: &mut Vec<(String, Builder)>,
+    columns: &[(String, Column)],
+) -> Result<(), AllocError>
+    requires typed { types_of (columns_in columns.now) ≡ types_of (pairs_view builders.old.items) }
+    requires even { (n : ℕ) × AreColumns n (columns_in columns.now) }
+    ensures ok { OnOk result (pairs_view builders.new.items ≡ fields_appended (pairs_view builders.old.items) (columns_in columns.now)) }
+    ensures kept { (n : ℕ) → AllHaveRows n (pairs_view builders.old.items)
+        → field_parts 0 n (pairs_view builders.new.items) ≡ pairs_view builders.old.items }
+{
+    for at in 0..builders.len() {
+        let builder = &mut builders[at];
+        append_to(alloc, &mut builder.1, &columns[at].1)?;
+    }
+    Ok(())
+}
+
+/// Adds to each field of structs the rows of a column.
+#[cycle(appending)]
+fn append_fields(
+    alloc: Global,
+    builders: &mut Builders,
+    columns: &Columns,
+) -> Result<(), AllocError>
+    requires typed { types_of (columns_view columns.now) ≡ types_of (builders_view builders.old) }
+    requires even { (n : ℕ) × AreColumns n (columns_view columns.now) }
+    ensures ok { OnOk result (builders_view builders.new ≡ fields_appended (builders_view builders.old) (columns_view columns.now)) }
+    ensures kept { (n : ℕ) → AllHaveRows n (builders_view builders.old) → field_parts 0 n (builders_view builders.new) ≡ builders_view builders.old }
+{
+    append_all(alloc, &mut builders.builders, columns.as_slice())
+}
+
+/// Adds the rows of a column. Where memory refuses, some of them may be there, and the rows before are as they were.
+#[cycle(appending)]
+fn append_to(alloc: Global, builder: &mut Builder, column: &Column) -> Result<(), AllocError>
+    requires typed { dtype_of (column_view column.now) ≡ dtype_of (builder_view builder.old) }
+    requires even { (n : ℕ) × IsColumn n (column_view column.now) }
+    ensures ok { OnOk result (builder_view builder.new ≡ appended (builder_view builder.old) (column_view column.now)) }
+    ensures kept { (n : ℕ) → HasRows n (builder_view builder.old) → part 0 n (builder_view builder.new) ≡ builder_view builder.old }
+{
+    match (builder, column) {
+        (Builder::Bool(rows), Column::Bool(column)) => rows.append(column),
+        (Builder::Int(rows), Column::Int(column)) => rows.append(alloc, column),
+        (Builder::Text(rows), Column::Text(column)) => rows.append(column),
+        (Builder::Struct(rows, builders), Column::Struct(structs, columns)) => {
+            rows.append(&structs.flags(alloc)?)?;
+            append_fields(alloc, builders, columns)
+        }
+        _ => unreachable!(),
+    }
+}
+
+/// Keeps so many rows of each field.
+#[cycle(truncating)]
+fn truncate_all(builders: &mut Vec<(String, Builder)>, rows: usize)
+    ensures { pairs_view builders.new.items ≡ field_parts 0 rows (pairs_view builders.old.items) }
+{
+    for at in 0..builders.len() {
+        let builder = &mut builders[at];
+        truncate(&mut builder.1, rows);
+    }
+}
+
+/// Keeps so many rows of each field of structs.
+#[cycle(truncating)]
+fn truncate_fields(builders: &mut Builders, rows: usize)
+    ensures { builders_view builders.new ≡ field_parts 0 rows (builders_view builders.old) }
+{
+    truncate_all(&mut builders.builders, rows);
+}
+
+/// Keeps so many rows.
+#[cycle(truncating)]
+fn truncate(builder: &mut Builder, rows: usize)
+    ensures { builder_view builder.new ≡ part 0 rows (builder_view builder.old) }
+{
+    match builder {
+        Builder::Bool(kept) => kept.truncate(rows),
+        Builder::Int(kept) => kept.truncate(rows),
+        Builder::Text(kept) => kept.truncate(rows),
+        Builder::Struct(kept, builders) => {
+            kept.truncate(rows);
+            truncate_fields(builders, rows);
+        }
+    }
+}
+
+/// The sum of the sizes of fields.
+#[cycle(weighing)]
+fn size_of_all(builders: &[(String, Builder)]) -> u64
+    ensures { result ≡ min (fields_plain_size (pairs_view builders.now)) (2 ^ 64 - 1) }
+{
+    let mut size: u64 = 0;
+    for at in 0..builders.len() {
+        size = size.saturating_add(size_of(&builders[at].1));
+    }
+    size
+}
+
+/// The sum of the sizes of the fields of structs.
+#[cycle(weighing)]
+fn size_of_fields(builders: &Builders) -> u64
+    ensures { result ≡ min (fields_plain_size (builders_view builders.now)) (2 ^ 64 - 1) }
+{
+    size_of_all(&builders.builders)
+}
+
+/// How many bytes the rows take, written plainly.
+#[cycle(weighing)]
+fn size_of(builder: &Builder) -> u64
+    ensures { result ≡ min (plain_size (builder_view builder.now)) (2 ^ 64 - 1) }
+{
+    match builder {
+        Builder::Bool(rows) => rows.plain_size(),
+        Builder::Int(rows) => rows.plain_size(),
+        Builder::Text(rows) => rows.plain_size(),
+        Builder::Struct(rows, builders) => {
+            size_of_structs(rows.is_nullable(), rows.len(), size_of_fields(builders))
+        }
+    }
+}
+
+/// The columns of fields.
+#[cycle(copying)]
+fn copy_all(
+    alloc: Global,
+    builders: &[(String, Builder)],
+) -> Result<Vec<(String, Column)>, AllocError>
+    ensures { IfOk result (λ columns. columns_in columns.items ≡ pairs_view builders.now) }
+{
+    let mut columns = Vec::new(alloc);
+    for at in 0..builders.len() {
+        let builder = &builders[at];
+        columns.push((builder.0.clone()?, copy(alloc, &builder.1)?))?;
+    }
+    Ok(columns)
+}
+
+/// The columns of the fields of structs.
+#[cycle(copying)]
+fn copy_fields(alloc: Global, builders: &Builders) -> Result<Columns, AllocError>
+    ensures { IfOk result (λ columns. columns_view columns ≡ builders_view builders.now) }
+{
+    Ok(Columns::new(copy_all(alloc, &builders.builders)?))
+}
+
+/// A column of the rows so far.
+#[cycle(copying)]
+fn copy(alloc: Global, builder: &Builder) -> Result<Column, AllocError>
+    ensures { IfOk result (λ column. column_view column ≡ builder_view builder.now) }
+{
+    match builder {
+        Builder::Bool(rows) => Ok(Column::Bool(rows.to_column(alloc)?)),
+        Builder::Int(rows) => Ok(Column::Int(rows.to_column(alloc)?)),
+        Builder::Text(rows) => Ok(Column::Text(rows.to_column(alloc)?)),
+        Builder::Struct(rows, builders) => {
+            let structs = rows.to_structs(alloc)?;
+            Ok(Column::Struct(structs, copy_fields(alloc, builders)?))
+        }
+    }
+}
+
+/// A column of one type that grows by parts of columns.
+#[derive(Drop)]
+pub struct GrowingColumn {
+    builder: Builder,
+}
+
+impl Model for GrowingColumn {
+    ghost use Rattle.vx_rows.specs.Rows.{Rows, rows_len, IsColumn};
+    ghost use Rattle.vx_rows.specs.Builders.{builder_view};
+
+    ghost Value = { Rows };
+
+    ghost view = { λ g. builder_view g.builder };
+
+    ghost invariant = { λ g. IsColumn (rows_len (builder_view g.builder)) (builder_view g.builder) };
+}
+
+impl GrowingColumn {
+    /// No rows of a type. Only memory refuses.
+    pub fn new(alloc: Global, dtype: &DType) -> Result<GrowingColumn, AllocError>
+        ensures { IfOk result (λ growing. growing ≡ no_rows (dtype_view dtype.now)) }
+    {
+        Ok(GrowingColumn {
+            builder: begin(alloc, dtype)?,
+        })
+    }
+
+    /// Adds the rows of a column from one on, up to another. Only memory refuses, and then nothing changes.
+    pub fn append(
+        &mut self,
+        alloc: Global,
+        column: &Column,
+        from: usize,
+        to: usize,
+    ) -> Result<(), AllocError>
+        requires typed { dtype_of (column_view column.now) ≡ dtype_of self.old }
+        requires even { IsColumn (rows_len (column_view column.now)) (column_view column.now) }
+        requires ordered { from ≤ to }
+        requires inside { to ≤ rows_len (column_view column.now) }
+        ensures ok { OnOk result (self.new ≡ appended self.old (part from to (column_view column.now))) }
+        ensures err { OnErr result (self.new ≡ self.old) }
+    {
+        let more = column.part(alloc, from, to)?;
+        let before = self.len();
+        match append_to(alloc, &mut self.builder, &more) {
+            Ok(()) => Ok(()),
+            Err(error) => {
+                truncate(&mut self.builder, before);
+                Err(error)
+            }
+        }
+    }
+
+    /// The number of rows.
+    pub fn len(&self) -> usize
+        ensures { result ≡ rows_len self.now }
+    {
+        len_of(&self.builder)
+    }
+
+    /// How many bytes the rows take, written plainly; 2^64 - 1 where they are more.
+    pub fn plain_size(&self) -> u64
+        ensures { result ≡ min (plain_size self.now) (2 ^ 64 - 1) }
+    {
+        size_of(&self.builder)
+    }
+
+    /// A column of the rows so far. Only memory refuses.
+    pub fn column(&self, alloc: Global) -> Result<Column, AllocError>
+        ensures value { IfOk result (λ column. column_view column ≡ self.now) }
+        ensures sound { IsColumn (rows_len self.now) self.now }
+    {
+        Ok(copy(alloc, &self.builder)?)
+    }
+
+    /// The column of the rows. No value is copied. Only memory refuses.
+    pub fn finish(self, alloc: Global) -> Result<Column, AllocError>
+        ensures value { IfOk result (λ column. column_view column ≡ self) }
+        ensures sound { IsColumn (rows_len self) self }
+    {
+        Ok(finish(alloc, self.builder)?)
+    }
+}
