@@ -27,3 +27,9 @@ pub mod DecimalLemmas
 pub mod PrintedBackLemmas
 pub mod ReadSoundLemmas
 pub mod ReadOnlyLemmas
+pub mod CutLemmas
+pub mod PartLemmas
+pub mod ColumnLaws
+pub mod JoinLemmas
+pub mod ExtentLemmas
+pub mod FieldGrowLemmas

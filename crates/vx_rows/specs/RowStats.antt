@@ -32,7 +32,7 @@ abbrev pub greater_of : {A : Type 0} → (A → A → Ordering) → Option A →
 greater_of cmp a b = lesser_of (flip_args cmp) a b
 
 -- the least value of rows, if some row has one
-unfoldable pub least : {A : Type 0} → (A → A → Ordering) → List (Option A) → Option A
+abbrev pub least : {A : Type 0} → (A → A → Ordering) → List (Option A) → Option A
 least cmp [] = None
 least cmp (row ∷ rows) = lesser_of cmp row (least cmp rows)
 
@@ -46,7 +46,7 @@ nulls_in rows = count_by (λ row. not (is_some row)) rows
 -- ---- the rows of a column, some of which are not present
 
 -- a row that is not present counts as null
-unfoldable pub masked : {A : Type 0} → List Bool → List (Option A) → List (Option A)
+abbrev pub masked : {A : Type 0} → List Bool → List (Option A) → List (Option A)
 masked [] rows = []
 masked (here ∷ present) [] = []
 masked (here ∷ present) (row ∷ rows) = (if here then row else None) ∷ masked present rows

@@ -57,4 +57,6 @@ pub use struct_rows::StructRows;
 pub use text_column::TextColumn;
 
 #[cfg(test)]
+mod part_tests;
+#[cfg(test)]
 mod tests;

@@ -1,0 +1,210 @@
+-- The least and the greatest of rows, gathered row by row and column by column.
+use Rattle.std.proofs.Common.{◌≡◌, ℕ, ℤ, zero, suc, ◌+◌, ◌-◌, ◌<◌, ◌≤◌, Bool, true, false, cond, List, [], ◌∷◌, ◌++◌, length, map, take, drop, Option, Some, None, is_some, refl, ap, sym, ◌∙◌, subst, arith, ◌⊎◌, inl, inr}
+use Rattle.std.specs.Prelude.{slice_index_or, not, count_by}
+use Rattle.std.specs.Option.{option_map}
+use Rattle.std.specs.declared.cmp.Ordering.{Ordering}
+use Rattle.std.specs.declared.cmp.Ordering.TheVariants.{Less, Equal, Greater}
+use Rattle.std.specs.Ordering.{bool_cmp, int_cmp, nat_cmp, is_lt, flip_args, ordering_reverse}
+use Rattle.std.specs.Cmp.{IsTotalOrder, bool_cmp_total, int_cmp_total}
+use Rattle.std.specs.Cmp.Lexicographic.{nat_list_cmp_total}
+use Rattle.std.proofs.lemmas.Bool.{false≢true}
+use Rattle.vx_data.specs.Scalar.{Value, flag, number, words}
+use Rattle.vx_data.specs.Dtype.{Dtype, FieldList, bool, int, text, struct, no_fields, field}
+use Rattle.vx_rows.specs.Columns.{Bools, Ints, Texts, Structs}
+use Rattle.vx_rows.specs.Rows.{Rows, FieldRows, bools, ints, texts, structs, no_columns, column, rows_len, dtype_of}
+use Rattle.vx_rows.specs.ReadRows.{no_rows}
+use Rattle.vx_rows.specs.Parts.{appended}
+use Rattle.std.proofs.lemmas.List.{drop_all, map-append}
+use Rattle.std.proofs.lemmas.List.Sums.{sum_by-drop_more, sum_by-append, count_by-le-length}
+use Rattle.vx_rows.proofs.WrittenLemmas.{next_of}
+use Rattle.vx_rows.proofs.MakingLemmas.{map_long}
+use Rattle.vx_rows.specs.RowStats.{lesser, lesser_of, greater_of, least, greatest, nulls_in, masked, there, text_cmp, value_cmp, Summary, summary_by, summary}
+
+-- ---- a choice of two, in any order of choosing
+
+module _ {A : Type 0} where
+  -- with h for 'c is less than this' and k for 'this is less than a'
+  chosen : (h k : A → Bool) (a b c : A) (p q r : Bool) → k b ≡ p → h b ≡ q → h a ≡ r → k c ≡ r → (p ≡ true → q ≡ true → r ≡ true) → (p ≡ false → q ≡ false → r ≡ false)
+      → cond (h (cond p b a)) c (cond p b a) ≡ cond (k (cond q c b)) (cond q c b) a
+  chosen h k a b c true true r kb hb ha kc yes no = ap (λ x. cond x c b) hb ∙ sym (ap (λ x. cond x c a) (kc ∙ yes refl refl))
+  chosen h k a b c true false r kb hb ha kc yes no = ap (λ x. cond x c b) hb ∙ sym (ap (λ x. cond x b a) kb)
+  chosen h k a b c false true r kb hb ha kc yes no = ap (λ x. cond x c a) ha ∙ sym (ap (λ x. cond x c a) kc)
+  chosen h k a b c false false r kb hb ha kc yes no = ap (λ x. cond x c a) (ha ∙ no refl refl) ∙ sym (ap (λ x. cond x b a) kb)
+
+  module _ (cmp : A → A → Ordering) (t : IsTotalOrder cmp) where
+    is-less : (o : Ordering) → is_lt o ≡ true → o ≡ Less
+    is-less Less h = refl
+    is-less Equal h = absurd (false≢true h)
+    is-less Greater h = absurd (false≢true h)
+
+    all-less : (a b c : A) → is_lt (cmp b a) ≡ true → is_lt (cmp c b) ≡ true → is_lt (cmp c a) ≡ true
+    all-less a b c h g = ap is_lt (t.trans c b a (is-less _ g) (is-less _ h))
+
+    none-less : (a b c : A) → is_lt (cmp b a) ≡ false → is_lt (cmp c b) ≡ false → is_lt (cmp c a) ≡ false
+    none-less a b c h g = by (cmp b a) (cmp c b) refl refl h g
+      where
+        by : (x y : Ordering) → cmp b a ≡ x → cmp c b ≡ y → is_lt x ≡ false → is_lt y ≡ false → is_lt (cmp c a) ≡ false
+        by Less y e f h g = absurd (false≢true (sym h))
+        by Equal Less e f h g = absurd (false≢true (sym g))
+        by Equal Equal e f h g = ap is_lt (t.congr c b a f ∙ e)
+        by Equal Greater e f h g =
+            let same : cmp b c ≡ cmp a c = t.congr b a c e in
+            ap is_lt (t.antisymm c a ∙ ap ordering_reverse (sym same) ∙ sym (t.antisymm c b) ∙ f)
+        by Greater Less e f h g = absurd (false≢true (sym g))
+        by Greater Equal e f h g = ap is_lt (t.congr c b a f ∙ e)
+        by Greater Greater e f h g =
+            let first : cmp a b ≡ Less = t.antisymm a b ∙ ap ordering_reverse e in
+            let second : cmp b c ≡ Less = t.antisymm b c ∙ ap ordering_reverse f in
+            ap is_lt (t.antisymm c a ∙ ap ordering_reverse (t.trans a b c first second))
+
+    lesser-assoc : (a b c : A) → lesser cmp (lesser cmp a b) c ≡ lesser cmp a (lesser cmp b c)
+    lesser-assoc a b c = chosen (λ x. is_lt (cmp c x)) (λ x. is_lt (cmp x a)) a b c (is_lt (cmp b a)) (is_lt (cmp c b)) (is_lt (cmp c a)) refl refl refl refl (all-less a b c) (none-less a b c)
+
+    pub lesser_of_assoc : (a b c : Option A) → lesser_of cmp (lesser_of cmp a b) c ≡ lesser_of cmp a (lesser_of cmp b c)
+    lesser_of_assoc None b c = refl
+    lesser_of_assoc (Some a) None c = refl
+    lesser_of_assoc (Some a) (Some b) None = refl
+    lesser_of_assoc (Some a) (Some b) (Some c) = ap Some (lesser-assoc a b c)
+
+    -- the least of rows behind one another
+    pub least_append : (xs ys : List (Option A)) → least cmp (xs ++ ys) ≡ lesser_of cmp (least cmp xs) (least cmp ys)
+    least_append [] ys = refl
+    least_append (x ∷ xs) ys = ap (lesser_of cmp x) (least_append xs ys) ∙ sym (lesser_of_assoc x (least cmp xs) (least cmp ys))
+
+    -- one row more
+    pub least_next : (xs : List (Option A)) (i : ℕ) (m : Option A) → i < length xs
+        → lesser_of cmp (lesser_of cmp m (slice_index_or xs i None)) (least cmp (drop (i + 1) xs)) ≡ lesser_of cmp m (least cmp (drop i xs))
+    least_next xs i m l = lesser_of_assoc m (slice_index_or xs i None) (least cmp (drop (i + 1) xs)) ∙ ap (λ ys. lesser_of cmp m (least cmp ys)) (sym (next_of xs i None l))
+
+    pub least_end : (xs : List (Option A)) (i : ℕ) (m : Option A) → length xs ≤ i → lesser_of cmp m (least cmp (drop i xs)) ≡ m
+    least_end xs i m l = ap (λ ys. lesser_of cmp m (least cmp ys)) (drop_all i xs l) ∙ itself m
+      where
+        itself : (m : Option A) → lesser_of cmp m None ≡ m
+        itself None = refl
+        itself (Some m) = refl
+
+pub flip_total : {A : Type 0} → (cmp : A → A → Ordering) → IsTotalOrder cmp → IsTotalOrder (flip_args cmp)
+flip_total cmp t = record {
+  antisymm = λ x y. t.antisymm y x;
+  trans = λ x y z h g. t.trans z y x g h;
+  congr = λ x y z h.
+      let level : cmp x y ≡ Equal = t.antisymm x y ∙ ap ordering_reverse h in
+      t.antisymm z x ∙ ap ordering_reverse (t.congr x y z level) ∙ sym (t.antisymm z y);
+}
+
+-- ---- nulls
+
+pub nulls_next : {A : Type 0} → (xs : List (Option A)) (i : ℕ) → i < length xs → nulls_in (drop i xs) ≡ cond (not (is_some (slice_index_or xs i None))) 1 0 + nulls_in (drop (i + 1) xs)
+nulls_next xs i l = sum_by-drop_more (λ (row : Option _). cond (not (is_some row)) 1 0) xs i None l
+
+pub nulls_end : {A : Type 0} → (xs : List (Option A)) (i : ℕ) → length xs ≤ i → nulls_in (drop i xs) ≡ 0
+nulls_end xs i l = ap nulls_in (drop_all i xs l)
+
+-- ---- rows that are present
+
+pub masked_long : {A : Type 0} → (present : List Bool) (rows : List (Option A)) → length present ≡ length rows → length (masked present rows) ≡ length rows
+masked_long [] [] e = refl
+masked_long [] (row ∷ rows) e = absurd (omega (arith, e))
+masked_long (here ∷ present) [] e = refl
+masked_long (here ∷ present) (row ∷ rows) e = ap suc (masked_long present rows (omega (arith, e)))
+
+pub masked_at : {A : Type 0} → (present : List Bool) (rows : List (Option A)) (i : ℕ) → length present ≡ length rows → i < length rows
+    → slice_index_or (masked present rows) i None ≡ cond (slice_index_or present i true) (slice_index_or rows i None) None
+masked_at [] [] i e l = absurd (omega (arith, l))
+masked_at [] (row ∷ rows) i e l = absurd (omega (arith, e))
+masked_at (here ∷ present) [] i e l = absurd (omega (arith, l))
+masked_at (here ∷ present) (row ∷ rows) zero e l = refl
+masked_at (here ∷ present) (row ∷ rows) (suc i) e l = masked_at present rows i (omega (arith, e)) (omega (arith, l))
+
+pub masked_append : {A : Type 0} → (p q : List Bool) (xs ys : List (Option A)) → length p ≡ length xs → masked (p ++ q) (xs ++ ys) ≡ masked p xs ++ masked q ys
+masked_append [] q [] ys e = refl
+masked_append [] q (x ∷ xs) ys e = absurd (omega (arith, e))
+masked_append (here ∷ p) q [] ys e = absurd (omega (arith, e))
+masked_append (here ∷ p) q (x ∷ xs) ys e = ap (λ rows. cond here x None ∷ rows) (masked_append p q xs ys (omega (arith, e)))
+
+-- ---- what columns behind one another tell
+
+-- what two parts of the rows tell together
+abbrev pub joined : Summary → Summary → Summary
+joined a b = record { min = lesser_of value_cmp a.min b.min; max = greater_of value_cmp a.max b.max; nulls = a.nulls + b.nulls }
+
+module _ {A : Type 0} (value : A → Value) where
+  chosen-value : (b : Bool) (x y : A) → value (cond b x y) ≡ cond b (value x) (value y)
+  chosen-value true x y = refl
+  chosen-value false x y = refl
+
+  same-choice : (cmp : A → A → Ordering) (by : Value → Value → Ordering) → ((a b : A) → by (value a) (value b) ≡ cmp a b) → (x y : Option A)
+      → option_map value (lesser_of cmp x y) ≡ lesser_of by (option_map value x) (option_map value y)
+  same-choice cmp by same None y = refl
+  same-choice cmp by same (Some x) None = refl
+  same-choice cmp by same (Some x) (Some y) = ap Some (chosen-value (is_lt (cmp y x)) y x ∙ ap (λ o. cond (is_lt o) (value y) (value x)) (sym (same y x)))
+
+  pub rows_joined : (cmp : A → A → Ordering) → IsTotalOrder cmp → ((a b : A) → value_cmp (value a) (value b) ≡ cmp a b) → (xs ys : List (Option A))
+      → summary_by value cmp (xs ++ ys) ≡ joined (summary_by value cmp xs) (summary_by value cmp ys)
+  rows_joined cmp t same xs ys =
+      let low = ap (option_map value) (least_append cmp t xs ys) ∙ same-choice cmp value_cmp same (least cmp xs) (least cmp ys) in
+      let high = ap (option_map value) (least_append (flip_args cmp) (flip_total cmp t) xs ys) ∙ same-choice (flip_args cmp) (flip_args value_cmp) (λ a b. same b a) (greatest cmp xs) (greatest cmp ys) in
+      let none = sum_by-append (λ (row : Option A). cond (not (is_some row)) 1 0) xs ys in
+      λ i. record { min = low i; max = high i; nulls = none i }
+
+pub seen_more : (c d : Rows) (p q : List Bool) → dtype_of c ≡ dtype_of d → length p ≡ rows_len c → summary (p ++ q) (appended c d) ≡ joined (summary p c) (summary q d)
+seen_more (bools c) (bools d) p q t e =
+    ap (summary_by flag bool_cmp) (masked_append p q c.rows d.rows e) ∙ rows_joined flag bool_cmp bool_cmp_total (λ a b. refl) (masked p c.rows) (masked q d.rows)
+seen_more (bools c) (ints d) p q t e = cc
+seen_more (bools c) (texts d) p q t e = cc
+seen_more (bools c) (structs d ds) p q t e = cc
+seen_more (ints c) (bools d) p q t e = cc
+seen_more (ints c) (ints d) p q t e =
+    ap (summary_by number int_cmp) (masked_append p q c.rows d.rows e) ∙ rows_joined number int_cmp int_cmp_total (λ a b. refl) (masked p c.rows) (masked q d.rows)
+seen_more (ints c) (texts d) p q t e = cc
+seen_more (ints c) (structs d ds) p q t e = cc
+seen_more (texts c) (bools d) p q t e = cc
+seen_more (texts c) (ints d) p q t e = cc
+seen_more (texts c) (texts d) p q t e =
+    ap (summary_by words text_cmp) (masked_append p q c.rows d.rows e) ∙ rows_joined words text_cmp nat_list_cmp_total (λ a b. refl) (masked p c.rows) (masked q d.rows)
+seen_more (texts c) (structs d ds) p q t e = cc
+seen_more (structs c cs) (bools d) p q t e = cc
+seen_more (structs c cs) (ints d) p q t e = cc
+seen_more (structs c cs) (texts d) p q t e = cc
+seen_more (structs c cs) (structs d ds) p q t e =
+    let shown = map-append there c.present d.present in
+    let rows = ap (masked (p ++ q)) shown ∙ masked_append p q (map there c.present) (map there d.present) (e ∙ sym (map_long there c.present)) in
+    let none = ap nulls_in rows ∙ sum_by-append (λ (row : Option (Unit {0})). cond (not (is_some row)) 1 0) (masked p (map there c.present)) (masked q (map there d.present)) in
+    λ i. record { min = None; max = None; nulls = none i }
+
+-- what no rows tell
+pub seen_none : (d : Dtype) → record { min = None; max = None; nulls = 0 } ≡ summary [] (no_rows d)
+seen_none (bool nullable) = refl
+seen_none (int ptype nullable) = refl
+seen_none (text nullable) = refl
+seen_none (struct fs nullable) = refl
+
+-- no more rows are null than there are
+pub nulls_few : {A : Type 0} → (xs : List (Option A)) → nulls_in xs ≤ length xs
+nulls_few xs = count_by-le-length (λ (row : Option _). not (is_some row)) xs
+
+-- ---- the steps of loops over the rows of a column
+
+pub flag_least : (xs : List (Option Bool)) (i : ℕ) (m : Option Bool) → i < length xs
+    → lesser_of bool_cmp (lesser_of bool_cmp m (slice_index_or xs i None)) (least bool_cmp (drop (i + 1) xs)) ≡ lesser_of bool_cmp m (least bool_cmp (drop i xs))
+flag_least = least_next bool_cmp bool_cmp_total
+
+pub flag_greatest : (xs : List (Option Bool)) (i : ℕ) (m : Option Bool) → i < length xs
+    → greater_of bool_cmp (greater_of bool_cmp m (slice_index_or xs i None)) (greatest bool_cmp (drop (i + 1) xs)) ≡ greater_of bool_cmp m (greatest bool_cmp (drop i xs))
+flag_greatest = least_next (flip_args bool_cmp) (flip_total bool_cmp bool_cmp_total)
+
+pub number_least : (xs : List (Option ℤ)) (i : ℕ) (m : Option ℤ) → i < length xs
+    → lesser_of int_cmp (lesser_of int_cmp m (slice_index_or xs i None)) (least int_cmp (drop (i + 1) xs)) ≡ lesser_of int_cmp m (least int_cmp (drop i xs))
+number_least = least_next int_cmp int_cmp_total
+
+pub number_greatest : (xs : List (Option ℤ)) (i : ℕ) (m : Option ℤ) → i < length xs
+    → greater_of int_cmp (greater_of int_cmp m (slice_index_or xs i None)) (greatest int_cmp (drop (i + 1) xs)) ≡ greater_of int_cmp m (greatest int_cmp (drop i xs))
+number_greatest = least_next (flip_args int_cmp) (flip_total int_cmp int_cmp_total)
+
+pub text_least : (xs : List (Option (List ℕ))) (i : ℕ) (m : Option (List ℕ)) → i < length xs
+    → lesser_of text_cmp (lesser_of text_cmp m (slice_index_or xs i None)) (least text_cmp (drop (i + 1) xs)) ≡ lesser_of text_cmp m (least text_cmp (drop i xs))
+text_least = least_next text_cmp nat_list_cmp_total
+
+pub text_greatest : (xs : List (Option (List ℕ))) (i : ℕ) (m : Option (List ℕ)) → i < length xs
+    → greater_of text_cmp (greater_of text_cmp m (slice_index_or xs i None)) (greatest text_cmp (drop (i + 1) xs)) ≡ greater_of text_cmp m (greatest text_cmp (drop i xs))
+text_greatest = least_next (flip_args text_cmp) (flip_total text_cmp nat_list_cmp_total)
