@@ -133,7 +133,7 @@ mutual
   column_rows n (bools c) h = h.0
   column_rows n (ints c) h = h.0
   column_rows n (texts c) h = h.0
-  column_rows n (structs c cs) h = (h.0, columns_rows n cs h.1.1)
+  column_rows n (structs c cs) h = (h.0, columns_rows n cs h.2)
 
   pub columns_rows : (n : ℕ) (cs : FieldRows) → AreColumns n cs → AllHaveRows n cs
   columns_rows n no_columns h = tt
@@ -159,11 +159,11 @@ all-cut f (x ∷ xs) (suc n) h = by (f x) refl h (all-cut f xs n)
 
 all-both : {A : Type 0} → (f : A → Bool) (xs ys : List A) → list_all f xs ≡ true → list_all f ys ≡ true → list_all f (xs ++ ys) ≡ true
 all-both f [] ys h g = g
-all-both f (x ∷ xs) ys h g = by (f x) refl h
+all-both f (x ∷ xs) ys h g = by (f x) refl h (λ k. all-both f xs ys k g)
   where
-    by : (b : Bool) → f x ≡ b → (b && list_all f xs) ≡ true → (f x && list_all f (xs ++ ys)) ≡ true
-    by true e k = ap (λ b. b && list_all f (xs ++ ys)) e ∙ all-both f xs ys k g
-    by false e k = absurd (false≢true k)
+    by : (b : Bool) → f x ≡ b → (b && list_all f xs) ≡ true → (list_all f xs ≡ true → list_all f (xs ++ ys) ≡ true) → (f x && list_all f (xs ++ ys)) ≡ true
+    by true e k rest = ap (λ b. b && list_all f (xs ++ ys)) e ∙ rest k
+    by false e k rest = absurd (false≢true k)
 
 -- where none may be null, none is
 held-part : {A : Type 0} → (f : A → Bool) (nullable : Bool) (xs : List A) (from to : ℕ) → (nullable || list_all f xs) ≡ true → (nullable || list_all f (slice_range xs from to)) ≡ true
@@ -180,18 +180,18 @@ mutual
   part_is_column n from to (bools c) o h e = (slice-long c.rows n from to o h e.0, held-part is_some c.nullable c.rows from to e.1)
   part_is_column n from to (ints c) o h e = (
     slice-long c.rows n from to o h e.0,
-    held-part is_some c.nullable c.rows from to e.1.0,
-    All-take _ (to - from) (drop from c.rows) (All-drop _ from c.rows e.1.1),
+    held-part is_some c.nullable c.rows from to e.1,
+    All-take _ (to - from) (drop from c.rows) (All-drop _ from c.rows e.2),
   )
   part_is_column n from to (texts c) o h e = (
     slice-long c.rows n from to o h e.0,
-    held-part is_some c.nullable c.rows from to e.1.0,
-    All-take _ (to - from) (drop from c.rows) (All-drop _ from c.rows e.1.1),
+    held-part is_some c.nullable c.rows from to e.1,
+    All-take _ (to - from) (drop from c.rows) (All-drop _ from c.rows e.2),
   )
   part_is_column n from to (structs c cs) o h e = (
     slice-long c.present n from to o h e.0,
-    held-part (λ b. b) c.nullable c.present from to e.1.0,
-    parts_are_columns n from to cs o h e.1.1,
+    held-part (λ b. b) c.nullable c.present from to e.1,
+    parts_are_columns n from to cs o h e.2,
   )
 
   pub parts_are_columns : (n from to : ℕ) (cs : FieldRows) → from ≤ to → to ≤ n → AreColumns n cs → AreColumns (to - from) (field_parts from to cs)
@@ -211,8 +211,8 @@ mutual
   appended_is_column n m (ints c) (bools d) t e f = cc
   appended_is_column n m (ints c) (ints d) t e f = (
     both-long c.rows d.rows n m e.0 f.0,
-    held-both is_some c.nullable c.rows d.rows e.1.0 (subst (λ b. (b || list_all is_some d.rows) ≡ true) (sym (int-null _ _ _ _ t)) f.1.0),
-    All-append _ c.rows d.rows e.1.1 (subst (λ p. AreWithin p d.rows) (sym (int-type _ _ _ _ t)) f.1.1),
+    held-both is_some c.nullable c.rows d.rows e.1 (subst (λ b. (b || list_all is_some d.rows) ≡ true) (sym (int-null _ _ _ _ t)) f.1),
+    All-append _ c.rows d.rows e.2 (subst (λ p. AreWithin p d.rows) (sym (int-type _ _ _ _ t)) f.2),
   )
   appended_is_column n m (ints c) (texts d) t e f = cc
   appended_is_column n m (ints c) (structs d ds) t e f = cc
@@ -220,8 +220,8 @@ mutual
   appended_is_column n m (texts c) (ints d) t e f = cc
   appended_is_column n m (texts c) (texts d) t e f = (
     both-long c.rows d.rows n m e.0 f.0,
-    held-both is_some c.nullable c.rows d.rows e.1.0 (subst (λ b. (b || list_all is_some d.rows) ≡ true) (sym (text-null _ _ t)) f.1.0),
-    All-append _ c.rows d.rows e.1.1 f.1.1,
+    held-both is_some c.nullable c.rows d.rows e.1 (subst (λ b. (b || list_all is_some d.rows) ≡ true) (sym (text-null _ _ t)) f.1),
+    All-append _ c.rows d.rows e.2 f.2,
   )
   appended_is_column n m (texts c) (structs d ds) t e f = cc
   appended_is_column n m (structs c cs) (bools d) t e f = cc
@@ -229,8 +229,8 @@ mutual
   appended_is_column n m (structs c cs) (texts d) t e f = cc
   appended_is_column n m (structs c cs) (structs d ds) t e f = (
     both-long c.present d.present n m e.0 f.0,
-    held-both (λ b. b) c.nullable c.present d.present e.1.0 (subst (λ b. (b || list_all (λ x. x) d.present) ≡ true) (sym (struct-null _ _ _ _ t)) f.1.0),
-    appended_are_columns n m cs ds (fields-same _ _ _ _ t) e.1.1 f.1.1,
+    held-both (λ b. b) c.nullable c.present d.present e.1 (subst (λ b. (b || list_all (λ x. x) d.present) ≡ true) (sym (struct-null _ _ _ _ t)) f.1),
+    appended_are_columns n m cs ds (fields-same _ _ _ _ t) e.2 f.2,
   )
 
   pub appended_are_columns : (n m : ℕ) (cs ds : FieldRows) → types_of cs ≡ types_of ds → AreColumns n cs → AreColumns m ds → AreColumns (n + m) (fields_appended cs ds)
@@ -242,10 +242,13 @@ mutual
 
 -- ---- a column and its parts
 
+from-start : {A : Type 0} → (xs : List A) (n : ℕ) → slice_range xs 0 n ≡ take n xs
+from-start xs n = let e : n - 0 ≡ n = omega arith in ap (λ k. take k xs) e
+
 cut-again : {A : Type 0} → (xs : List A) (k n : ℕ) → k ≤ n → length xs ≡ n → slice_range xs 0 k ++ slice_range xs k n ≡ xs
 cut-again xs k n h e =
     let size = length-drop k xs in
-    ap (λ ys. take k xs ++ ys) (take_all (n - k) (drop k xs) (omega (arith, size, e))) ∙ take-append-drop k xs
+    ap (λ ys. ys ++ slice_range xs k n) (from-start xs k) ∙ ap (λ ys. take k xs ++ ys) (take_all (n - k) (drop k xs) (omega (arith, size, e))) ∙ take-append-drop k xs
 
 mutual
   -- the rows up to one, and behind them those from there on
@@ -262,12 +265,12 @@ mutual
   all_parts_again n k (column name c cs) h e =
       ap (λ (x : Rows). column name x (fields_appended (field_parts 0 k cs) (field_parts k n cs))) (parts_again n k c h e.0) ∙ ap (column name c) (all_parts_again n k cs h e.1)
 
-drop-twice : {A : Type 0} → (a b : ℕ) (xs : List A) → drop b (drop a xs) ≡ drop (a + b) xs
+pub drop-twice : {A : Type 0} → (a b : ℕ) (xs : List A) → drop b (drop a xs) ≡ drop (a + b) xs
 drop-twice zero b xs = let e : b ≡ zero + b = omega arith in ap (λ n. drop n xs) e
 drop-twice {A} (suc a) b [] = drop_all {X = A} b [] (omega arith) ∙ sym (drop_all {X = A} (suc a + b) [] (omega arith))
 drop-twice (suc a) b (x ∷ xs) = let e : suc (a + b) ≡ suc a + b = omega arith in drop-twice a b xs ∙ ap (λ n. drop n (x ∷ xs)) e
 
-take-twice : {A : Type 0} → (m k : ℕ) (xs : List A) → m ≤ k → take m (take k xs) ≡ take m xs
+pub take-twice : {A : Type 0} → (m k : ℕ) (xs : List A) → m ≤ k → take m (take k xs) ≡ take m xs
 take-twice zero k xs h = refl
 take-twice (suc m) zero xs h = absurd (omega (arith, h))
 take-twice (suc m) (suc k) [] h = refl
@@ -300,13 +303,16 @@ mutual
 
 -- ---- all rows of a column
 
+whole : {A : Type 0} → (xs : List A) (n : ℕ) → length xs ≤ n → slice_range xs 0 n ≡ xs
+whole xs n l = from-start xs n ∙ take_all n xs l
+
 mutual
   pub all-kept : (c : Rows) (n : ℕ) → HasRows n c → part 0 n c ≡ c
-  all-kept (bools c) n e = ap (λ rows. bools (record { nullable = c.nullable; rows = rows })) (take_all n c.rows (omega (arith, e)))
-  all-kept (ints c) n e = ap (λ rows. ints (record { ptype = c.ptype; nullable = c.nullable; rows = rows })) (take_all n c.rows (omega (arith, e)))
-  all-kept (texts c) n e = ap (λ rows. texts (record { nullable = c.nullable; rows = rows })) (take_all n c.rows (omega (arith, e)))
+  all-kept (bools c) n e = ap (λ rows. bools (record { nullable = c.nullable; rows = rows })) (whole c.rows n (omega (arith, e)))
+  all-kept (ints c) n e = ap (λ rows. ints (record { ptype = c.ptype; nullable = c.nullable; rows = rows })) (whole c.rows n (omega (arith, e)))
+  all-kept (texts c) n e = ap (λ rows. texts (record { nullable = c.nullable; rows = rows })) (whole c.rows n (omega (arith, e)))
   all-kept (structs c cs) n e =
-      ap (λ rows. structs (record { nullable = c.nullable; present = rows }) (field_parts 0 n cs)) (take_all n c.present (let h = e.0 in omega (arith, h)))
+      ap (λ rows. structs (record { nullable = c.nullable; present = rows }) (field_parts 0 n cs)) (whole c.present n (let h = e.0 in omega (arith, h)))
       ∙ ap (structs c) (all-kept-fields cs n e.1)
 
   pub all-kept-fields : (cs : FieldRows) (n : ℕ) → AllHaveRows n cs → field_parts 0 n cs ≡ cs
@@ -314,7 +320,7 @@ mutual
   all-kept-fields (column name c cs) n e = ap (λ (x : Rows). column name x (field_parts 0 n cs)) (all-kept c n e.0) ∙ ap (column name c) (all-kept-fields cs n e.1)
 
 front-kept : {A : Type 0} → (xs ys : List A) (n : ℕ) → length xs ≡ n → slice_range (xs ++ ys) 0 n ≡ xs
-front-kept xs ys n e = ap (λ k. take k (xs ++ ys)) (sym e) ∙ take-append_seam xs ys
+front-kept xs ys n e = from-start (xs ++ ys) n ∙ ap (λ k. take k (xs ++ ys)) (sym e) ∙ take-append_seam xs ys
 
 mutual
   -- the rows before those that were put behind them

@@ -9,13 +9,16 @@ use Rattle.std.proofs.Math.Nat.{min-eq_left, min-eq_right, mul-le-mul_left}
 use Rattle.vx_data.specs.declared.ptype.PType.{PType}
 use Rattle.vx_rows.specs.Span.{span, every}
 use Rattle.vx_rows.specs.Bits.{bit, present_at}
-use Rattle.vx_rows.specs.Columns.{bool_row, is_false_row, int_row, is_clear, raw_at, value_of, value_size, value_place, text_row, AreRanges, AreTexts}
+use Rattle.vx_rows.specs.Columns.{Ints, Texts, Structs, bool_row, is_false_row, int_row, is_clear, raw_at, value_of, value_size, value_place, text_row, AreRanges, AreTexts}
 use Rattle.vx_rows.proofs.SpanLemmas.{length_span, span_same, every_all, every_holds}
 
 -- ---- runs
 
 pub drop_span : {A : Type 0} → (f : ℕ → A) (k n a : ℕ) → a ≤ n → drop a (span f k n) ≡ span f (k + a) (n - a)
-drop_span f k n zero h = ap (λ j. span f j n) (omega arith)
+drop_span f k n zero h =
+    let a : k ≡ k + 0 = omega arith in
+    let b : n ≡ n - 0 = omega arith in
+    ap (λ j. span f j n) a ∙ ap (span f (k + 0)) b
 drop_span f k zero (suc a) h = absurd (omega arith)
 drop_span f k (suc n) (suc a) h =
     let e : suc n - suc a ≡ n - a = omega arith in
@@ -52,7 +55,9 @@ part_is f g n a b o h same =
 
 pub part_every : (f g : ℕ → Bool) (n a b : ℕ) → a ≤ b → b ≤ n → ((i : ℕ) → i < b - a → g i ≡ f (a + i)) → every f 0 n ≡ true → every g 0 (b - a) ≡ true
 part_every f g n a b o h same all =
-    every_holds g 0 (b - a) (λ i l u. same i (omega (arith, u)) ∙ every_all f 0 n all (a + i) (omega (arith, u, o, h)))
+    every_holds g 0 (b - a) (λ i l u.
+    let z : a + i ≡ 0 + (a + i) = omega arith in
+    same i (omega (arith, u)) ∙ ap f z ∙ every_all f 0 n all (a + i) (omega (arith, u, o, h)))
 
 -- ---- bits
 
@@ -135,6 +140,32 @@ place-at p at from i = scaled (value_size p) at from i
   where
     scaled : (s at from i : ℕ) → at + s * from + s * i ≡ at + s * (from + i)
     scaled s at from i = grind arith
+
+-- where a row begins is no greater than where all end
+pub place_upto : (p : PType) (at from n len : ℕ) → from ≤ n → value_place p at n ≤ len → value_place p at from ≤ len
+place_upto p at from n len h l = let more = mul-le-mul_left (value_size p) h in omega (arith, more, l)
+
+-- as many rows as are seen
+pub ints_seen : (p : PType) (nullable : Bool) (present : Option (List Bool)) (b : List ℕ) (at n to : ℕ) (c : Ints)
+    → record { ptype = p; nullable = nullable; rows = span (int_row p present b at) 0 n } ≡ c → to ≤ length c.rows → to ≤ n
+ints_seen p nullable present b at n to c e l =
+    let size = length_span (int_row p present b at) 0 n in
+    let same = ap (λ (x : Ints). length x.rows) e in
+    omega (arith, size, same, l)
+
+pub texts_seen : (nullable : Bool) (present : Option (List Bool)) (b places : List ℕ) (n to : ℕ) (c : Texts)
+    → record { nullable = nullable; rows = span (text_row present b places) 0 n } ≡ c → to ≤ length c.rows → to ≤ n
+texts_seen nullable present b places n to c e l =
+    let size = length_span (text_row present b places) 0 n in
+    let same = ap (λ (x : Texts). length x.rows) e in
+    omega (arith, size, same, l)
+
+pub structs_seen : (nullable : Bool) (present : Option (List Bool)) (n to : ℕ) (c : Structs)
+    → record { nullable = nullable; present = span (present_at present) 0 n } ≡ c → to ≤ length c.present → to ≤ n
+structs_seen nullable present n to c e l =
+    let size = length_span (present_at present) 0 n in
+    let same = ap (λ (x : Structs). length x.present) e in
+    omega (arith, size, same, l)
 
 module _ (p : PType) (present : Option (List Bool)) (b : List ℕ) (at n from to : ℕ) (o : from ≤ to) (h : to ≤ n) where
   abbrev pub ints-after : Option (List Bool)

@@ -107,7 +107,7 @@ module _ (p : PType) (nullable : Bool) where
       let grown = ap (λ xs. xs ++ rows) (ints_grow p nullable flags bytes row long first fits) ∙ append_assoc (ints-of flags bytes) (row ∷ []) rows in
       subst (λ fs. Joins (ints-of flags bytes) (row ∷ rows) fs (bytes ++ flat_map (cell p) (row ∷ rows))) (append_assoc flags (is_some row ∷ []) (map is_some rows))
       (subst (Joins (ints-of flags bytes) (row ∷ rows) ((flags ++ is_some row ∷ []) ++ map is_some rows)) (append_assoc bytes (cell p row) (flat_map (cell p) rows))
-      (rest.0 ∙ grown, rest.1.0, rest.1.1))
+      (rest.0 ∙ grown, rest.1, rest.2))
 
 module _ (p : PType) (f g : Structs) (bytes bytes' : List ℕ) (rows : List (Option ℤ)) (c : Ints)
     (e : record { ptype = p; nullable = f.nullable; rows = span (int_row p (kept f) bytes 0) 0 (length f.present) } ≡ c)
@@ -125,11 +125,14 @@ module _ (p : PType) (f g : Structs) (bytes bytes' : List ℕ) (rows : List (Opt
 
   pub ints_joined : record { ptype = p; nullable = g.nullable; rows = span (int_row p (kept g) bytes' 0) 0 (length g.present) } ≡ record { ptype = c.ptype; nullable = c.nullable; rows = c.rows ++ rows }
   ints_joined =
-      rw (flag, placed) (ap (λ (xs : List (Option ℤ)). record { ptype = p; nullable = f.nullable; rows = xs }) together.0
-      ∙ ap (λ (x : Ints). record { ptype = x.ptype; nullable = x.nullable; rows = x.rows ++ rows }) e)
+      let made : ◌≡◌ {A = Ints} (record { ptype = p; nullable = f.nullable; rows = ints-of p f.nullable (f.present ++ map is_some rows) (bytes ++ flat_map (cell p) rows) })
+      (record { ptype = c.ptype; nullable = c.nullable; rows = c.rows ++ rows }) =
+      ap (λ (xs : List (Option ℤ)). record { ptype = p; nullable = f.nullable; rows = xs }) together.0
+      ∙ ap (λ (x : Ints). record { ptype = x.ptype; nullable = x.nullable; rows = x.rows ++ rows }) e in
+      rw (flag, placed) made
 
   pub ints_joined_well : (length bytes' ≡ value_size p * length g.present) × (every (is_clear p (kept g) bytes' 0) 0 (length g.present) ≡ true)
-  ints_joined_well = rw (flag, placed) (together.1.0, together.1.1)
+  ints_joined_well = rw (flag, placed) (together.1, together.2)
 
 -- ---- rows that are cut off
 
@@ -137,7 +140,7 @@ pub front_is : {A : Type 0} → (f g : ℕ → A) (n m : ℕ) → n ≤ m → ((
 front_is f g n m l same = span_same g f 0 n (λ i a b. same i (omega (arith, b))) ∙ sym (take_span f 0 m n l)
 
 pub front_every : (f g : ℕ → Bool) (n m : ℕ) → n ≤ m → ((i : ℕ) → i < n → g i ≡ f i) → every f 0 m ≡ true → every g 0 n ≡ true
-front_every f g n m l same all = every_holds g 0 n (λ i a b. same i (omega (arith, b)) ∙ every_all f 0 m all i (omega (arith, b, l)))
+front_every f g n m l same all = every_holds g 0 n (λ i a b. let z : i ≡ 0 + i = omega arith in same i (omega (arith, b)) ∙ ap f z ∙ every_all f 0 m all i (omega (arith, b, l)))
 
 pub take_upto : {A : Type 0} → (n : ℕ) (xs : List A) → take (min n (length xs)) xs ≡ take n xs
 take_upto n xs = by (cases_lt n (length xs))
@@ -231,7 +234,8 @@ module _ (p : PType) (nullable : Bool) (flags : List Bool) (bytes : List ℕ) (n
   pub ints_front_long : length front-bytes ≡ value_size p * length (take n flags)
   ints_front_long =
       let more = mul-le-mul_left (value_size p) l in
-      length-take-le (value_place p 0 n) bytes (omega (arith, more, long)) ∙ ap (λ k. value_size p * k) (sym (length-take-le n flags l))
+      let zero-on : value_place p 0 n ≡ value_size p * n = omega arith in
+      length-take-le (value_place p 0 n) bytes (omega (arith, more, long)) ∙ zero-on ∙ ap (λ k. value_size p * k) (sym (length-take-le n flags l))
 
 -- a part of the bytes before one
 range-before : (bytes : List ℕ) (a b e : ℕ) → a ≤ b → b ≤ e → slice_range (take e bytes) a b ≡ slice_range bytes a b

@@ -33,3 +33,5 @@ pub mod ColumnLaws
 pub mod JoinLemmas
 pub mod ExtentLemmas
 pub mod FieldGrowLemmas
+pub mod FillLemmas
+pub mod SizeLemmas

@@ -199,6 +199,7 @@ impl Bits {
     }
 
     /// The rows from one on, up to another. Only memory refuses.
+    #[tactic(auto, using(crate::proofs::CutLemmas::bits_cut, crate::proofs::SpanLemmas::length_span))]
     pub(crate) fn part(&self, alloc: Global, from: usize, to: usize) -> Result<Bits, AllocError>
         requires ordered { from ≤ to }
         requires inside { to ≤ length self.now }

@@ -1,5 +1,5 @@
 //! Columns of truth values that grow row by row.
-ghost use Rattle.std.specs.Prelude.{ℕ, List, ◌≡◌, ◌-◌, ◌^◌, ◌++◌, ◌||◌, length, min, take, not, [], true, false, Some, None, if◌then◌else◌, IfOk, OnOk};
+ghost use Rattle.std.specs.Prelude.{ℕ, List, ◌≡◌, ◌-◌, ◌^◌, ◌++◌, ◌||◌, length, min, take, not, [], true, false, Some, None, if◌then◌else◌, IfOk, OnOk, OnErr};
 ghost use Rattle.vx_base.specs.Checks.{Gives, ◌lacking◌};
 ghost use Rattle.std.specs.Option.{option_map};
 ghost use Rattle.vx_data.specs.declared.text_error.TextError.TheVariants.{BadText};
@@ -57,7 +57,8 @@ impl BoolBuilder {
     fn push_row(&mut self, is_there: bool, value: bool) -> Result<(), AllocError>
         requires allowed { (self.old.nullable || is_there) ≡ true }
         requires clear { (is_there || not value) ≡ true }
-        ensures { OnOk result (self.new ≡ more_bools self.old (if is_there then Some value else None)) }
+        ensures ok { OnOk result (self.new ≡ more_bools self.old (if is_there then Some value else None)) }
+        ensures err { OnErr result (self.new ≡ self.old) }
     {
         self.values.push(value)?;
         match self.present.push(is_there) {
@@ -103,6 +104,7 @@ impl BoolBuilder {
     }
 
     /// The number of rows.
+    #[tactic(auto, using(crate::proofs::SpanLemmas::length_span))]
     pub fn len(&self) -> usize
         ensures { result ≡ length self.now.rows }
     {
@@ -110,6 +112,7 @@ impl BoolBuilder {
     }
 
     /// Adds the rows of a column. Only memory refuses, and then some of them may be there.
+    #[tactic(auto, using(crate::proofs::JoinLemmas::bools_next, crate::proofs::JoinLemmas::bools_none, crate::proofs::JoinLemmas::bools_all, crate::proofs::JoinLemmas::bools_before, crate::proofs::JoinLemmas::hold_at))]
     pub fn append(&mut self, column: &BoolColumn) -> Result<(), AllocError>
         requires { may_hold self.old.nullable column.now.rows ≡ true }
         ensures ok { OnOk result (self.new ≡ record self.old { rows = self.old.rows ++ column.now.rows }) }

@@ -111,6 +111,7 @@ impl BoolColumn {
     }
 
     /// The rows from one on, up to another. Only memory refuses.
+    #[tactic(auto, using(crate::proofs::CutLemmas::bools_cut, crate::proofs::CutLemmas::bools_cut_clear, crate::proofs::CutLemmas::bools_cut_long, crate::proofs::SpanLemmas::length_span))]
     pub(crate) fn part(
         &self,
         alloc: Global,
@@ -127,6 +128,7 @@ impl BoolColumn {
     }
 
     /// Whether no row is missing where none may be null.
+    #[tactic(auto, using(crate::proofs::FillLemmas::bools_filled))]
     pub(crate) fn is_filled(&self) -> bool
         ensures { result ≡ may_hold self.now.nullable self.now.rows }
     {
@@ -141,6 +143,7 @@ impl BoolColumn {
     }
 
     /// Which rows have a value. Only memory refuses.
+    #[tactic(auto, using(crate::proofs::WrittenLemmas::bools_present, crate::proofs::SpanLemmas::length_span))]
     pub(crate) fn flags(&self, alloc: Global) -> Result<Vec<bool>, AllocError>
         ensures { IfOk result (λ flags. flags.items ≡ map is_some self.now.rows) }
     {

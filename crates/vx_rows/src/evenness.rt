@@ -1,6 +1,6 @@
 //! Whether a column has a given type, and whether all columns in it are as long.
 ghost use Rattle.std.specs.Prelude.{◌≡◌, true, false};
-ghost use Rattle.vx_data.specs.Dtype.{dtype_view, fields_view, pairs_view as types_view};
+ghost use Rattle.vx_data.specs.Dtype.{bool, int, text, dtype_view, fields_view, pairs_view as types_view};
 ghost use Rattle.vx_rows.specs.Rows.{column_view, columns_view, pairs_view, rows_len, dtype_of, types_of, IsColumn, AreColumns};
 
 use crate::{Column, Columns};
@@ -12,6 +12,42 @@ fn is_same(a: PType, b: PType) -> bool
     ensures no { result ≡ false → a ≡ b → ⊥ }
 {
     a == b
+}
+
+fn is_bool(dtype: &DType, nullable: bool) -> bool
+    ensures yes { result ≡ true → bool nullable ≡ dtype_view dtype.now }
+    ensures no { result ≡ false → bool nullable ≡ dtype_view dtype.now → ⊥ }
+{
+    match dtype {
+        DType::Bool(other) => nullable == *other,
+        DType::Int(_, _) => false,
+        DType::Text(_) => false,
+        DType::Struct(_, _) => false,
+    }
+}
+
+fn is_int(dtype: &DType, ptype: PType, nullable: bool) -> bool
+    ensures yes { result ≡ true → int ptype nullable ≡ dtype_view dtype.now }
+    ensures no { result ≡ false → int ptype nullable ≡ dtype_view dtype.now → ⊥ }
+{
+    match dtype {
+        DType::Int(kind, other) => is_same(ptype, *kind) && nullable == *other,
+        DType::Bool(_) => false,
+        DType::Text(_) => false,
+        DType::Struct(_, _) => false,
+    }
+}
+
+fn is_text(dtype: &DType, nullable: bool) -> bool
+    ensures yes { result ≡ true → text nullable ≡ dtype_view dtype.now }
+    ensures no { result ≡ false → text nullable ≡ dtype_view dtype.now → ⊥ }
+{
+    match dtype {
+        DType::Text(other) => nullable == *other,
+        DType::Bool(_) => false,
+        DType::Int(_, _) => false,
+        DType::Struct(_, _) => false,
+    }
 }
 
 /// Whether fields have these names and types.
@@ -51,16 +87,18 @@ fn is_of(column: &Column, dtype: &DType) -> bool
     ensures yes { result ≡ true → dtype_of (column_view column.now) ≡ dtype_view dtype.now }
     ensures no { result ≡ false → dtype_of (column_view column.now) ≡ dtype_view dtype.now → ⊥ }
 {
-    match (column, dtype) {
-        (Column::Bool(column), DType::Bool(nullable)) => column.is_nullable() == *nullable,
-        (Column::Int(column), DType::Int(ptype, nullable)) => {
-            is_same(column.ptype(), *ptype) && column.is_nullable() == *nullable
-        }
-        (Column::Text(column), DType::Text(nullable)) => column.is_nullable() == *nullable,
-        (Column::Struct(rows, columns), DType::Struct(fields, nullable)) => {
-            rows.is_nullable() == *nullable && are_fields_of(columns, fields)
-        }
-        _ => false,
+    match column {
+        Column::Bool(column) => is_bool(dtype, column.is_nullable()),
+        Column::Int(column) => is_int(dtype, column.ptype(), column.is_nullable()),
+        Column::Text(column) => is_text(dtype, column.is_nullable()),
+        Column::Struct(rows, columns) => match dtype {
+            DType::Struct(fields, nullable) => {
+                rows.is_nullable() == *nullable && are_fields_of(columns, fields)
+            }
+            DType::Bool(_) => false,
+            DType::Int(_, _) => false,
+            DType::Text(_) => false,
+        },
     }
 }
 

@@ -86,6 +86,7 @@ impl Flags {
     }
 
     /// Adds rows, null only where they may be. Only memory refuses, and then nothing changes.
+    #[tactic(auto, using(crate::proofs::JoinLemmas::there_joined))]
     pub fn append(&mut self, flags: &[bool]) -> Result<(), AllocError>
         requires { are_there self.old.nullable flags.now ≡ true }
         ensures ok { OnOk result (self.new ≡ record self.old { present = self.old.present ++ flags.now }) }
@@ -96,6 +97,7 @@ impl Flags {
     }
 
     /// Keeps so many rows.
+    #[tactic(auto, using(crate::proofs::JoinLemmas::there_front))]
     pub fn truncate(&mut self, rows: usize)
         ensures { self.new ≡ record self.old { present = take rows self.old.present } }
     {

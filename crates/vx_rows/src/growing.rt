@@ -117,6 +117,7 @@ fn truncate(builder: &mut Builder, rows: usize)
 
 /// The sum of the sizes of fields.
 #[cycle(weighing)]
+#[tactic(auto, using(crate::proofs::FieldGrowLemmas::builder_sizes))]
 fn size_of_all(builders: &[(String, Builder)]) -> u64
     ensures { result ≡ min (fields_plain_size (pairs_view builders.now)) (2 ^ 64 - 1) }
 {

@@ -129,6 +129,7 @@ impl IntBuilder {
     }
 
     /// The number of rows.
+    #[tactic(auto, using(crate::proofs::SpanLemmas::length_span))]
     pub fn len(&self) -> usize
         ensures { result ≡ length self.now.rows }
     {

@@ -213,12 +213,12 @@ fn push_values(
     bytes.extend_from_slice(&held[at..end])
 }
 
-/// Each value that bytes hold is in the range of its type.
-fn are_within(kind: PType, present: &Option<Bits>, bytes: &[u8], at: usize, count: usize)
-    requires { value_place kind at count ≤ length bytes.now }
-    ensures { AreWithin kind (span (int_row kind present.now bytes.now at) 0 count) }
+/// The values that bytes hold are in the range of their type.
+fn are_within(_kind: PType, _present: &Option<Bits>, bytes: &[u8], _at: usize, _count: usize)
+    requires { value_place _kind _at _count ≤ length bytes.now }
+    ensures { AreWithin _kind (span (int_row _kind _present.now bytes.now _at) 0 _count) }
 {
-    let _ = (kind, present, bytes, at, count);
+    let _bytes = bytes;
 }
 
 impl IntColumn {
@@ -331,6 +331,7 @@ impl IntColumn {
     }
 
     /// The rows from one on, up to another. Only memory refuses.
+    #[tactic(auto, using(crate::proofs::CutLemmas::ints_cut, crate::proofs::CutLemmas::ints_cut_clear, crate::proofs::CutLemmas::ints_cut_inside, crate::proofs::CutLemmas::present_long, crate::proofs::SpanLemmas::length_span, crate::proofs::IntLemmas::place_bound))]
     pub(crate) fn part(
         &self,
         alloc: Global,
@@ -341,6 +342,7 @@ impl IntColumn {
         requires inside { to ≤ length self.now.rows }
         ensures { IfOk result (λ column. column ≡ record self.now { rows = slice_range self.now.rows from to }) }
     {
+        prove!(self.held.len() < 1 << 63);
         let present = part_of(alloc, &self.present, from, to)?;
         let place = place_of(self.kind, self.at, from);
         let column = IntColumn::new(
@@ -356,6 +358,7 @@ impl IntColumn {
     }
 
     /// Whether no row is missing where none may be null. Each value is in the range of the type.
+    #[tactic(auto, using(crate::proofs::FillLemmas::ints_filled))]
     pub(crate) fn is_filled(&self) -> bool
         ensures value { result ≡ may_hold self.now.nullable self.now.rows }
         ensures within { AreWithin self.now.ptype self.now.rows }
@@ -393,6 +396,7 @@ impl IntColumn {
     }
 
     /// Which rows have a value. Only memory refuses.
+    #[tactic(auto, using(crate::proofs::WrittenLemmas::ints_present, crate::proofs::SpanLemmas::length_span))]
     pub(crate) fn flags(&self, alloc: Global) -> Result<Vec<bool>, AllocError>
         ensures { IfOk result (λ flags. flags.items ≡ map is_some self.now.rows) }
     {

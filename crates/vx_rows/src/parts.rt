@@ -8,7 +8,7 @@ ghost use Rattle.vx_rows.specs.Rows.{column_view, columns_view, pairs_view};
 ghost use Rattle.vx_rows.specs.Parts.{part, field_parts, is_struct, presence_of};
 
 use crate::int_column::has_value;
-use crate::{Bits, BoolColumn, Column, Columns};
+use crate::{Bits, Column, Columns};
 use std::alloc::{AllocError, Global};
 
 /// Which rows of a part have a value. Only memory refuses.
@@ -39,6 +39,7 @@ pub fn are_all_present(present: &Option<Bits>) -> bool
 }
 
 /// Which of so many rows have a value. Only memory refuses.
+#[tactic(auto, using(crate::proofs::SpanLemmas::span_push))]
 pub fn flags_of(alloc: Global, present: &Option<Bits>, rows: usize) -> Result<Vec<bool>, AllocError>
     requires { IfSome present.now (λ bits. length bits ≡ rows) }
     ensures { IfOk result (λ flags. flags.items ≡ span (present_at present.now) 0 rows) }
@@ -118,10 +119,7 @@ impl Column {
         ensures { IfOk result (λ column. column_view column ≡ presence_of (column_view self.now)) }
     {
         match self {
-            Column::Struct(rows, _) => {
-                let values = rows.to_bits(alloc)?;
-                Ok(Column::Bool(BoolColumn::new(false, None, values)))
-            }
+            Column::Struct(rows, _) => Ok(Column::Bool(rows.presence(alloc)?)),
             _ => unreachable!(),
         }
     }

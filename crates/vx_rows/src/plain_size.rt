@@ -51,6 +51,7 @@ pub fn size_of_structs(nullable: bool, rows: usize, fields: u64) -> u64
 
 /// The sum of the sizes of fields.
 #[cycle(measuring)]
+#[tactic(auto, using(crate::proofs::PartLemmas::field_sizes))]
 fn size_of_all(columns: &[(String, Column)]) -> u64
     ensures { result ≡ min (fields_plain_size (pairs_view columns.now)) (2 ^ 64 - 1) }
 {

@@ -1,5 +1,5 @@
 //! Which structs of a column are not null.
-ghost use Rattle.std.specs.Prelude.{◌≡◌, ◌++◌, ◌<◌, ◌≤◌, length, slice_index_or, slice_range, IfOk, IfSome, true, OnOk};
+ghost use Rattle.std.specs.Prelude.{◌≡◌, ◌++◌, ◌<◌, ◌≤◌, length, map, slice_index_or, slice_range, IfOk, IfSome, Some, true, false, OnOk};
 ghost use Rattle.vx_rows.specs.Columns.{are_there};
 ghost use Rattle.vx_rows.specs.Span.{span};
 ghost use Rattle.vx_rows.specs.Bits.{present_at};
@@ -8,7 +8,7 @@ ghost use Rattle.vx_rows.specs.Written.{presence_bytes};
 use crate::int_column::has_value;
 use crate::parts::{are_all_present, flags_of, part_of};
 use crate::presence::push_presence;
-use crate::{Bits, Mask};
+use crate::{Bits, BoolColumn, Mask};
 use std::alloc::{AllocError, Global};
 use std::marker::Model;
 
@@ -93,6 +93,7 @@ impl StructRows {
     }
 
     /// The rows from one on, up to another. Only memory refuses.
+    #[tactic(auto, using(crate::proofs::CutLemmas::structs_cut, crate::proofs::CutLemmas::present_long, crate::proofs::SpanLemmas::length_span))]
     pub(crate) fn part(
         &self,
         alloc: Global,
@@ -108,6 +109,7 @@ impl StructRows {
     }
 
     /// Whether no row is missing where none may be null.
+    #[tactic(auto, using(crate::proofs::FillLemmas::structs_filled))]
     pub(crate) fn is_filled(&self) -> bool
         ensures { result ≡ are_there self.now.nullable self.now.present }
     {
@@ -122,13 +124,23 @@ impl StructRows {
     }
 
     /// Which rows are not null, as bits. Only memory refuses.
-    pub(crate) fn to_bits(&self, alloc: Global) -> Result<Bits, AllocError>
+    #[tactic(auto, using(crate::proofs::FillLemmas::whole_bits))]
+    fn to_bits(&self, alloc: Global) -> Result<Bits, AllocError>
         ensures { IfOk result (λ bits. bits ≡ self.now.present) }
     {
         match &self.bits {
             Some(bits) => Ok(bits.part(alloc, 0, self.count)?),
             None => Ok(Bits::from_rows(alloc, &self.flags(alloc)?)?),
         }
+    }
+
+    /// Which rows are not null, as truth values. Only memory refuses.
+    #[tactic(auto, using(crate::proofs::FillLemmas::truths, crate::proofs::FillLemmas::truths_clear))]
+    pub(crate) fn presence(&self, alloc: Global) -> Result<BoolColumn, AllocError>
+        ensures { IfOk result (λ column. column ≡ record { nullable = false; rows = map Some self.now.present }) }
+    {
+        let values = self.to_bits(alloc)?;
+        Ok(BoolColumn::new(false, None, values))
     }
 
     /// Which rows are not null. Only memory refuses.

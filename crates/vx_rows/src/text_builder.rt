@@ -81,7 +81,8 @@ impl TextBuilder {
     /// Adds a row that is there, or one that is null and has no bytes.
     fn push_row(&mut self, is_there: bool, value: &str) -> Result<(), AllocError>
         requires { (self.old.nullable || is_there) ≡ true }
-        ensures { OnOk result (self.new ≡ more_texts self.old (if is_there then Some value.now else None)) }
+        ensures ok { OnOk result (self.new ≡ more_texts self.old (if is_there then Some value.now else None)) }
+        ensures err { OnErr result (self.new ≡ self.old) }
     {
         let before = self.bytes.len();
         push_text(&mut self.bytes, &mut self.places, value)?;
@@ -144,6 +145,7 @@ impl TextBuilder {
     }
 
     /// The number of rows.
+    #[tactic(auto, using(crate::proofs::SpanLemmas::length_span))]
     pub fn len(&self) -> usize
         ensures { result ≡ length self.now.rows }
     {
@@ -151,6 +153,7 @@ impl TextBuilder {
     }
 
     /// Adds the rows of a column. Only memory refuses, and then some of them may be there.
+    #[tactic(auto, using(crate::proofs::JoinLemmas::texts_next, crate::proofs::JoinLemmas::texts_none, crate::proofs::JoinLemmas::texts_all, crate::proofs::JoinLemmas::texts_before, crate::proofs::JoinLemmas::hold_at))]
     pub fn append(&mut self, column: &TextColumn) -> Result<(), AllocError>
         requires { may_hold self.old.nullable column.now.rows ≡ true }
         ensures ok { OnOk result (self.new ≡ record self.old { rows = self.old.rows ++ column.now.rows }) }

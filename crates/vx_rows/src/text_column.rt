@@ -201,6 +201,7 @@ impl TextColumn {
     }
 
     /// The rows from one on, up to another. Only memory refuses.
+    #[tactic(auto, using(crate::proofs::CutLemmas::texts_cut, crate::proofs::CutLemmas::texts_cut_long, crate::proofs::CutLemmas::ranges_cut, crate::proofs::CutLemmas::utf8_cut, crate::proofs::CutLemmas::present_long, crate::proofs::SpanLemmas::length_span))]
     pub(crate) fn part(
         &self,
         alloc: Global,
@@ -225,6 +226,7 @@ impl TextColumn {
     }
 
     /// Whether no row is missing where none may be null. Each value is a text.
+    #[tactic(auto, using(crate::proofs::FillLemmas::texts_filled, crate::proofs::FillLemmas::texts_valid))]
     pub(crate) fn is_filled(&self) -> bool
         ensures value { result ≡ may_hold self.now.nullable self.now.rows }
         ensures texts { AreUtf8 self.now.rows }
@@ -251,6 +253,7 @@ impl TextColumn {
     }
 
     /// Which rows have a value. Only memory refuses.
+    #[tactic(auto, using(crate::proofs::WrittenLemmas::texts_present, crate::proofs::SpanLemmas::length_span))]
     pub(crate) fn flags(&self, alloc: Global) -> Result<Vec<bool>, AllocError>
         ensures { IfOk result (λ flags. flags.items ≡ map is_some self.now.rows) }
     {
