@@ -174,6 +174,12 @@ held-both : {A : Type 0} → (f : A → Bool) (nullable : Bool) (xs ys : List A)
 held-both f true xs ys h g = refl
 held-both f false xs ys h g = all-both f xs ys h g
 
+abbrev pub is-fit : PType → Option ℤ → Type 0
+is-fit p row = IfSome row (λ value. is_within p value ≡ true)
+
+abbrev pub is-utf8 : Option (List ℕ) → Type 0
+is-utf8 row = IfSome row IsUtf8
+
 mutual
   -- a part of a column is one
   pub part_is_column : (n from to : ℕ) (c : Rows) → from ≤ to → to ≤ n → IsColumn n c → IsColumn (to - from) (part from to c)
@@ -181,12 +187,12 @@ mutual
   part_is_column n from to (ints c) o h e = (
     slice-long c.rows n from to o h e.0,
     held-part is_some c.nullable c.rows from to e.1,
-    All-take _ (to - from) (drop from c.rows) (All-drop _ from c.rows e.2),
+    All-take (is-fit c.ptype) (to - from) (drop from c.rows) (All-drop (is-fit c.ptype) from c.rows e.2),
   )
   part_is_column n from to (texts c) o h e = (
     slice-long c.rows n from to o h e.0,
     held-part is_some c.nullable c.rows from to e.1,
-    All-take _ (to - from) (drop from c.rows) (All-drop _ from c.rows e.2),
+    All-take is-utf8 (to - from) (drop from c.rows) (All-drop is-utf8 from c.rows e.2),
   )
   part_is_column n from to (structs c cs) o h e = (
     slice-long c.present n from to o h e.0,
@@ -212,7 +218,7 @@ mutual
   appended_is_column n m (ints c) (ints d) t e f = (
     both-long c.rows d.rows n m e.0 f.0,
     held-both is_some c.nullable c.rows d.rows e.1 (subst (λ b. (b || list_all is_some d.rows) ≡ true) (sym (int-null _ _ _ _ t)) f.1),
-    All-append _ c.rows d.rows e.2 (subst (λ p. AreWithin p d.rows) (sym (int-type _ _ _ _ t)) f.2),
+    All-append (is-fit c.ptype) c.rows d.rows e.2 (subst (λ p. AreWithin p d.rows) (sym (int-type _ _ _ _ t)) f.2),
   )
   appended_is_column n m (ints c) (texts d) t e f = cc
   appended_is_column n m (ints c) (structs d ds) t e f = cc
@@ -221,7 +227,7 @@ mutual
   appended_is_column n m (texts c) (texts d) t e f = (
     both-long c.rows d.rows n m e.0 f.0,
     held-both is_some c.nullable c.rows d.rows e.1 (subst (λ b. (b || list_all is_some d.rows) ≡ true) (sym (text-null _ _ t)) f.1),
-    All-append _ c.rows d.rows e.2 f.2,
+    All-append is-utf8 c.rows d.rows e.2 f.2,
   )
   appended_is_column n m (texts c) (structs d ds) t e f = cc
   appended_is_column n m (structs c cs) (bools d) t e f = cc

@@ -21,26 +21,26 @@ all-present : (present : Option (List Bool)) (n : ℕ) → IfSome present (λ bi
 all-present None n e = all-true 0 n
 all-present (Some bits) n e = ap (λ m. list_all (λ b. b) (span (present_at (Some bits)) 0 m)) (sym e) ∙ ap (list_all (λ b. b)) (span_list true bits)
 
-all-some : {A : Type 0} → (rows : List (Option A)) → list_all is_some rows ≡ list_all (λ b. b) (map is_some rows)
-all-some [] = refl
-all-some (row ∷ rows) = ap (λ b. is_some row && b) (all-some rows)
+pub all_some : {A : Type 0} → (rows : List (Option A)) → list_all is_some rows ≡ list_all (λ b. b) (map is_some rows)
+all_some [] = refl
+all_some (row ∷ rows) = ap (λ b. is_some row && b) (all_some rows)
 
 -- ---- whether no row is missing
 
 pub bools_filled : (nullable : Bool) (present : Option (List Bool)) (values : List Bool) (n : ℕ) → IfSome present (λ bits. length bits ≡ n)
     → (nullable || list_all (λ b. b) (unwrap_or present [])) ≡ may_hold nullable (span (bool_row present values) 0 n)
 bools_filled nullable present values n e =
-    ap (λ b. nullable || b) (sym (all-some (span (bool_row present values) 0 n) ∙ ap (list_all (λ b. b)) (bools_present present values n) ∙ all-present present n e))
+    ap (λ b. nullable || b) (sym (all_some (span (bool_row present values) 0 n) ∙ ap (list_all (λ b. b)) (bools_present present values n) ∙ all-present present n e))
 
 pub ints_filled : (nullable : Bool) (p : PType) (present : Option (List Bool)) (b : List ℕ) (at n : ℕ) → IfSome present (λ bits. length bits ≡ n)
     → (nullable || list_all (λ b. b) (unwrap_or present [])) ≡ may_hold nullable (span (int_row p present b at) 0 n)
 ints_filled nullable p present b at n e =
-    ap (λ b. nullable || b) (sym (all-some (span (int_row p present b at) 0 n) ∙ ap (list_all (λ b. b)) (ints_present p present b at n) ∙ all-present present n e))
+    ap (λ b. nullable || b) (sym (all_some (span (int_row p present b at) 0 n) ∙ ap (list_all (λ b. b)) (ints_present p present b at n) ∙ all-present present n e))
 
 pub texts_filled : (nullable : Bool) (present : Option (List Bool)) (b places : List ℕ) (n : ℕ) → IfSome present (λ bits. length bits ≡ n)
     → (nullable || list_all (λ b. b) (unwrap_or present [])) ≡ may_hold nullable (span (text_row present b places) 0 n)
 texts_filled nullable present b places n e =
-    ap (λ b. nullable || b) (sym (all-some (span (text_row present b places) 0 n) ∙ ap (list_all (λ b. b)) (texts_present present b places n) ∙ all-present present n e))
+    ap (λ b. nullable || b) (sym (all_some (span (text_row present b places) 0 n) ∙ ap (list_all (λ b. b)) (texts_present present b places n) ∙ all-present present n e))
 
 pub structs_filled : (nullable : Bool) (present : Option (List Bool)) (n : ℕ) → IfSome present (λ bits. length bits ≡ n)
     → (nullable || list_all (λ b. b) (unwrap_or present [])) ≡ are_there nullable (span (present_at present) 0 n)

@@ -123,7 +123,8 @@ module _ (p : PType) (f g : Structs) (bytes bytes' : List ℕ) (rows : List (Opt
   placed : bytes' ≡ bytes ++ flat_map (cell p) rows
   placed = value ∙ ap (λ (x : Ints). bytes ++ flat_map (cell x.ptype) rows) (sym e)
 
-  pub ints_joined : record { ptype = p; nullable = g.nullable; rows = span (int_row p (kept g) bytes' 0) 0 (length g.present) } ≡ record { ptype = c.ptype; nullable = c.nullable; rows = c.rows ++ rows }
+  pub ints_joined : ◌≡◌ {A = Ints} (record { ptype = p; nullable = g.nullable; rows = span (int_row p (kept g) bytes' 0) 0 (length g.present) })
+      (record { ptype = c.ptype; nullable = c.nullable; rows = c.rows ++ rows })
   ints_joined =
       let made : ◌≡◌ {A = Ints} (record { ptype = p; nullable = f.nullable; rows = ints-of p f.nullable (f.present ++ map is_some rows) (bytes ++ flat_map (cell p) rows) })
       (record { ptype = c.ptype; nullable = c.nullable; rows = c.rows ++ rows }) =

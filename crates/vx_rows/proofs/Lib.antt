@@ -35,3 +35,4 @@ pub mod ExtentLemmas
 pub mod FieldGrowLemmas
 pub mod FillLemmas
 pub mod SizeLemmas
+pub mod CutBackLemmas

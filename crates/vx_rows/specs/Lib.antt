@@ -15,3 +15,4 @@ pub mod PrintedRows
 pub mod Parts
 pub mod RowStats
 pub mod LayoutRows
+pub mod RowsCode

@@ -129,8 +129,9 @@ impl BoolBuilder {
     pub fn truncate(&mut self, rows: usize)
         ensures { self.new ≡ record self.old { rows = take rows self.old.rows } }
     {
-        self.present.truncate(rows);
-        self.values.truncate(rows);
+        let kept = rows.min(self.values.len());
+        self.present.truncate(kept);
+        self.values.truncate(kept);
     }
 
     /// How many bytes the rows take, written plainly.

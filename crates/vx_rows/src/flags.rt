@@ -1,7 +1,8 @@
 //! Which rows of a column that grows are not null.
-ghost use Rattle.std.specs.Prelude.{◌≡◌, ◌++◌, ◌∷◌, [], ◌||◌, ◌<◌, true, take, length, slice_index_or, IfOk, OnOk, OnErr};
+ghost use Rattle.std.specs.Prelude.{◌≡◌, ◌++◌, ◌∷◌, [], ◌||◌, ◌<◌, true, take, length, IfOk, OnOk, OnErr};
 ghost use Rattle.vx_rows.specs.Columns.{Structs, are_there};
 ghost use Rattle.vx_rows.specs.ReadRows.{more_structs};
+ghost use Rattle.vx_rows.specs.Bits.{present_at};
 ghost use Rattle.vx_rows.specs.Kept.{kept};
 
 use crate::{Bits, StructRows};
@@ -108,8 +109,8 @@ impl Flags {
     #[inline(always)]
     pub fn is_there(&self, row: usize) -> bool
         requires { row < length self.now.present }
-        ensures { result ≡ slice_index_or self.now.present row true }
+        ensures { result ≡ present_at (kept self.now) row }
     {
-        self.flags[row]
+        !self.may_be_null || self.flags[row]
     }
 }

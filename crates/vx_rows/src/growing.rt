@@ -199,9 +199,12 @@ pub struct GrowingColumn {
 
 impl Model for GrowingColumn {
     ghost use Rattle.vx_rows.specs.Rows.{Rows, rows_len, IsColumn};
+    ghost use Rattle.vx_rows.specs.RowsCode.{rows_code};
     ghost use Rattle.vx_rows.specs.Builders.{builder_view};
 
     ghost Value = { Rows };
+
+    ghost coded = { rows_code };
 
     ghost view = { λ g. builder_view g.builder };
 

@@ -1,5 +1,5 @@
 //! Columns of texts that grow row by row.
-ghost use Rattle.std.specs.Prelude.{ℕ, List, ◌≡◌, ◌-◌, ◌^◌, ◌<◌, ◌||◌, ◌++◌, ◌∷◌, [], length, min, take, sum_by, slice_index_or, true, Some, None, if◌then◌else◌, IfOk, OnOk, OnErr};
+ghost use Rattle.std.specs.Prelude.{ℕ, List, ◌≡◌, ◌-◌, ◌^◌, ◌<◌, ◌||◌, ◌++◌, ◌∷◌, [], length, min, take, sum_by, slice_index, slice_index_or, true, Some, None, if◌then◌else◌, IfOk, OnOk, OnErr};
 ghost use Rattle.vx_base.specs.Checks.{Gives, ◌lacking◌};
 ghost use Rattle.std.specs.Option.{option_map};
 ghost use Rattle.vx_data.specs.declared.text_error.TextError.TheVariants.{BadText};
@@ -62,6 +62,14 @@ fn push_text(bytes: &mut Vec<u8>, places: &mut Vec<usize>, value: &str) -> Resul
             Err(AllocError)
         }
     }
+}
+
+/// The place of a row.
+fn place_at(places: &[usize], row: usize) -> usize
+    requires { row < length places.now }
+    ensures { result ≡ slice_index places.now row }
+{
+    places[row]
 }
 
 impl TextBuilder {
@@ -171,7 +179,7 @@ impl TextBuilder {
     {
         let kept = rows.min(self.present.len());
         self.present.truncate(kept);
-        self.bytes.truncate(self.places[kept]);
+        self.bytes.truncate(place_at(&self.places, kept));
         self.places.truncate(kept + 1);
     }
 
@@ -181,13 +189,14 @@ impl TextBuilder {
         ensures { result ≡ length (text_bytes (slice_index_or self.now.rows row None)) }
     {
         if self.present.is_there(row) {
-            self.places[row + 1] - self.places[row]
+            place_at(&self.places, row + 1) - place_at(&self.places, row)
         } else {
             0
         }
     }
 
     /// How many bytes the texts have.
+    #[tactic(auto, using(crate::proofs::SpanLemmas::length_span))]
     fn bytes_len(&self) -> u64
         ensures { result ≡ min (sum_by (λ row. length (text_bytes row)) self.now.rows) (2 ^ 64 - 1) }
     {

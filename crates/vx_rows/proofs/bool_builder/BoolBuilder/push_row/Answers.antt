@@ -6,7 +6,7 @@ invariant_of-self-in-Ok c =
     bools_kept c.self.inside.present c.push-2.new.self c.self.inside.values.items c.push.new.self.items c.args.is_there c.args.value c.args.self.now c.self.view_is
     c.self.invariant.0 c.requires.allowed c.in-Ok.ensures.ok c.in_ok-push.ensures.items c.requires.clear c.self.invariant.1
 
-pub returns-in-Ok : goal.returns-in-Ok
-returns-in-Ok c =
+pub returns-in-Ok-clause-ok : goal.returns-in-Ok-clause-ok
+returns-in-Ok-clause-ok c =
     bools_pushed c.self.inside.present c.push-2.new.self c.self.inside.values.items c.push.new.self.items c.args.is_there c.args.value c.args.self.now c.self.view_is
     c.self.invariant.0 c.requires.allowed c.in-Ok.ensures.ok c.in_ok-push.ensures.items
