@@ -325,7 +325,7 @@ mutual
   all-kept-fields no_columns n e = refl
   all-kept-fields (column name c cs) n e = ap (λ (x : Rows). column name x (field_parts 0 n cs)) (all-kept c n e.0) ∙ ap (column name c) (all-kept-fields cs n e.1)
 
-front-kept : {A : Type 0} → (xs ys : List A) (n : ℕ) → length xs ≡ n → slice_range (xs ++ ys) 0 n ≡ xs
+pub front-kept : {A : Type 0} → (xs ys : List A) (n : ℕ) → length xs ≡ n → slice_range (xs ++ ys) 0 n ≡ xs
 front-kept xs ys n e = from-start (xs ++ ys) n ∙ ap (λ k. take k (xs ++ ys)) (sym e) ∙ take-append_seam xs ys
 
 mutual

@@ -4,7 +4,6 @@ use Rattle.std.specs.Prelude.{slice_index, slice_index_or, slice_range, ◌||◌
 use Rattle.std.specs.List.{list_all}
 use Rattle.std.proofs.lemmas.List.{length-drop, length-take-le}
 use Rattle.std.proofs.Math.Nat.{min-le_right}
-use Rattle.std.proofs.Math.Seq.{take-append_seam}
 use Rattle.vx_data.specs.declared.ptype.PType.{PType}
 use Rattle.vx_rows.specs.Span.{span, every}
 use Rattle.vx_rows.specs.Bits.{present_at}
@@ -76,13 +75,7 @@ module _ (f g : Structs) (bytes bytes' places places' : List ℕ) (rows n : ℕ)
       → (length places' ≡ length g.present + 1) × (slice_index places' (length g.present) ≡ length bytes') × AreRanges bytes' places' (length g.present) × AreTexts bytes' places' (length g.present)
   texts_truncated_well t = rw (flag, value, place) (texts_front_well f.nullable f.present bytes places n long end r (few n rows (length f.present) least) t)
 
--- ---- rows that were there before
-
-pub ints_before : (c d : Ints) (rows : List (Option ℤ)) → d ≡ record { ptype = c.ptype; nullable = c.nullable; rows = c.rows ++ rows }
-    → record { ptype = d.ptype; nullable = d.nullable; rows = take (length c.rows) d.rows } ≡ c
-ints_before c d rows e =
-    ap (λ (x : Ints). record { ptype = x.ptype; nullable = x.nullable; rows = take (length c.rows) x.rows }) e
-    ∙ ap (λ (xs : List (Option ℤ)). record { ptype = c.ptype; nullable = c.nullable; rows = xs }) (take-append_seam c.rows rows)
+-- ---- flags
 
 -- flags that are there where none of the rows is missing
 pub held_there : {A : Type 0} → (nullable : Bool) (rows : List (Option A)) (flags : List Bool) → flags ≡ map is_some rows → may_hold nullable rows ≡ true → are_there nullable flags ≡ true

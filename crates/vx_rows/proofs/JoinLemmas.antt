@@ -57,11 +57,6 @@ module _ (c : Bools) (rows : List (Option Bool)) where
   pub bools_all : (n : ℕ) → length rows ≤ n → bools_upto n ≡ record { nullable = c.nullable; rows = c.rows ++ rows }
   bools_all n l = ap (λ (xs : List (Option Bool)). record { nullable = c.nullable; rows = c.rows ++ xs }) (take_all n rows l)
 
-  pub bools_before : (n : ℕ) (d : Bools) → d ≡ bools_upto n → record { nullable = d.nullable; rows = take (length c.rows) d.rows } ≡ c
-  bools_before n d e =
-      ap (λ (x : Bools). record { nullable = x.nullable; rows = take (length c.rows) x.rows }) e
-      ∙ ap (λ (xs : List (Option Bool)). record { nullable = c.nullable; rows = xs }) (take-append_seam c.rows (take n rows))
-
 module _ (c : Texts) (rows : List (Option (List ℕ))) where
   abbrev pub texts_upto : ℕ → Texts
   texts_upto n = record { nullable = c.nullable; rows = c.rows ++ take n rows }
@@ -76,11 +71,6 @@ module _ (c : Texts) (rows : List (Option (List ℕ))) where
 
   pub texts_all : (n : ℕ) → length rows ≤ n → texts_upto n ≡ record { nullable = c.nullable; rows = c.rows ++ rows }
   texts_all n l = ap (λ (xs : List (Option (List ℕ))). record { nullable = c.nullable; rows = c.rows ++ xs }) (take_all n rows l)
-
-  pub texts_before : (n : ℕ) (d : Texts) → d ≡ texts_upto n → record { nullable = d.nullable; rows = take (length c.rows) d.rows } ≡ c
-  texts_before n d e =
-      ap (λ (x : Texts). record { nullable = x.nullable; rows = take (length c.rows) x.rows }) e
-      ∙ ap (λ (xs : List (Option (List ℕ))). record { nullable = c.nullable; rows = xs }) (take-append_seam c.rows (take n rows))
 
 -- ---- integers, all at once
 

@@ -36,3 +36,4 @@ pub mod FieldGrowLemmas
 pub mod FillLemmas
 pub mod SizeLemmas
 pub mod CutBackLemmas
+pub mod KeepLemmas

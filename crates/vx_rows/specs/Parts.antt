@@ -1,9 +1,9 @@
 -- Parts of columns, columns behind one another, and how large the rows of a column are.
-use Rattle.std.specs.Prelude.{ℕ, ◌+◌, ◌*◌, Bool, true, false, if◌then◌else◌, ◌++◌, map, length, sum_by, slice_range, Some}
+use Rattle.std.specs.Prelude.{◌≡◌, ℕ, ◌+◌, ◌*◌, Bool, true, false, if◌then◌else◌, ◌++◌, map, length, sum_by, slice_range, Some}
 use Rattle.vx_rows.specs.Bits.{bitmap_size}
 use Rattle.vx_rows.specs.Columns.{Structs, value_size}
 use Rattle.vx_rows.specs.Written.{text_bytes}
-use Rattle.vx_rows.specs.Rows.{Rows, FieldRows, bools, ints, texts, structs, no_columns, column}
+use Rattle.vx_rows.specs.Rows.{Rows, FieldRows, bools, ints, texts, structs, no_columns, column, HasRows, AllHaveRows}
 
 abbrev mutual
   -- the rows of a column, and of all fields in it, from one on up to another
@@ -29,6 +29,13 @@ abbrev mutual
   pub fields_appended : FieldRows → FieldRows → FieldRows
   fields_appended (column name c cs) (column _ d ds) = column name (appended c d) (fields_appended cs ds)
   fields_appended cs _ = cs
+
+-- the rows that were there are the first of those that are there now
+pub record Keeps (old new : Rows) : Type 0 where
+  pub front : (n : ℕ) → HasRows n old → part 0 n new ≡ old
+
+pub record FieldsKeep (old new : FieldRows) : Type 0 where
+  pub front : (n : ℕ) → AllHaveRows n old → field_parts 0 n new ≡ old
 
 -- ---- sizes
 

@@ -35,18 +35,18 @@ abbrev mutual
   fields_to no_columns = gnil
   fields_to (column name c cs) = gcons (name_code.code name) (gcons (rows_to c) (fields_to cs))
 
-head : Gv → Gv
+abbrev head : Gv → Gv
 head gnil = gnil
 head (gnum n) = gnil
 head (gcons a b) = a
 
-tail : Gv → Gv
+abbrev tail : Gv → Gv
 tail gnil = gnil
 tail (gnum n) = gnil
 tail (gcons a b) = b
 
 mutual
-  rows_back : (x y : Rows) → rows_to x ≡ rows_to y → x ≡ y
+  pub rows_back : (x y : Rows) → rows_to x ≡ rows_to y → x ≡ y
   rows_back (bools c) (bools d) e = ap bools (bools_code.inj c d (ap tail e))
   rows_back (bools c) (ints d) e = cc
   rows_back (bools c) (texts d) e = cc
@@ -64,7 +64,7 @@ mutual
   rows_back (structs c cs) (texts d) e = cc
   rows_back (structs c cs) (structs d ds) e = ap₂ structs (structs_code.inj c d (ap (λ g. head (tail g)) e)) (fields_back cs ds (ap (λ g. tail (tail g)) e))
 
-  fields_back : (xs ys : FieldRows) → fields_to xs ≡ fields_to ys → xs ≡ ys
+  pub fields_back : (xs ys : FieldRows) → fields_to xs ≡ fields_to ys → xs ≡ ys
   fields_back no_columns no_columns e = refl
   fields_back no_columns (column name c cs) e = cc
   fields_back (column name c cs) no_columns e = cc

@@ -6,7 +6,7 @@ ghost use Rattle.vx_data.specs.declared.text_error.TextError.TheVariants.{BadTex
 ghost use Rattle.vx_data.specs.TextsRead.{FailsToRead};
 ghost use Rattle.vx_rows.specs.Columns.{Bools, may_hold};
 ghost use Rattle.vx_rows.specs.Rows.{bools};
-ghost use Rattle.vx_rows.specs.Parts.{plain_size};
+ghost use Rattle.vx_rows.specs.Parts.{Keeps, plain_size};
 ghost use Rattle.vx_rows.specs.ReadValues.{optional_in, truth_in};
 ghost use Rattle.vx_rows.specs.ReadRows.{more_bools, null_or};
 
@@ -112,11 +112,11 @@ impl BoolBuilder {
     }
 
     /// Adds the rows of a column. Only memory refuses, and then some of them may be there.
-    #[tactic(auto, using(crate::proofs::JoinLemmas::bools_next, crate::proofs::JoinLemmas::bools_none, crate::proofs::JoinLemmas::bools_all, crate::proofs::JoinLemmas::bools_before, crate::proofs::JoinLemmas::hold_at))]
+    #[tactic(auto, using(crate::proofs::JoinLemmas::bools_next, crate::proofs::JoinLemmas::bools_none, crate::proofs::JoinLemmas::bools_all, crate::proofs::KeepLemmas::bools_keep, crate::proofs::JoinLemmas::hold_at))]
     pub fn append(&mut self, column: &BoolColumn) -> Result<(), AllocError>
         requires { may_hold self.old.nullable column.now.rows ≡ true }
         ensures ok { OnOk result (self.new ≡ record self.old { rows = self.old.rows ++ column.now.rows }) }
-        ensures kept { record self.new { rows = take (length self.old.rows) self.new.rows } ≡ self.old }
+        ensures kept { Keeps (bools self.old) (bools self.new) }
     {
         for row in 0..column.len() {
             let value = column.get(row);
@@ -138,7 +138,7 @@ impl BoolBuilder {
     pub fn plain_size(&self) -> u64
         ensures { result ≡ min (plain_size (bools self.now)) (2 ^ 64 - 1) }
     {
-        size_of_bools(self.present.is_nullable(), self.values.len())
+        size_of_bools(self.present.is_nullable(), self.len())
     }
 
     /// A column of the rows so far. Only memory refuses.

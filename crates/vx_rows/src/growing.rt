@@ -1,14 +1,16 @@
 //! Columns that grow by parts of columns.
-ghost use Rattle.std.specs.Prelude.{◌≡◌, ◌≤◌, ◌-◌, ◌^◌, ℕ, min, IfOk, OnOk, OnErr};
+ghost use Rattle.std.specs.Prelude.{◌≡◌, ◌≤◌, ◌-◌, ◌^◌, ◌++◌, ℕ, min, true, IfOk, OnOk, OnErr};
 ghost use Rattle.vx_data.specs.Dtype.{dtype_view};
-ghost use Rattle.vx_rows.specs.Rows.{column_view, columns_view, pairs_view as columns_in, rows_len, dtype_of, types_of, IsColumn, AreColumns, HasRows, AllHaveRows};
+ghost use Rattle.vx_rows.specs.Rows.{column_view, columns_view, pairs_view as columns_in, rows_len, dtype_of, types_of, structs, IsColumn, AreColumns};
+ghost use Rattle.vx_rows.specs.Columns.{are_there};
 ghost use Rattle.vx_rows.specs.ReadRows.{no_rows};
 ghost use Rattle.vx_rows.specs.Builders.{builder_view, builders_view, pairs_view};
-ghost use Rattle.vx_rows.specs.Parts.{part, field_parts, appended, fields_appended, plain_size, fields_plain_size};
+ghost use Rattle.vx_rows.specs.Parts.{part, field_parts, Keeps, FieldsKeep, appended, fields_appended, plain_size, fields_plain_size};
 
 use crate::builder::{Builder, Builders, begin, finish};
+use crate::flags::Flags;
 use crate::plain_size::size_of_structs;
-use crate::{Column, Columns};
+use crate::{Column, Columns, StructRows};
 use std::alloc::{AllocError, Global};
 use std::marker::Model;
 use vx_data::DType;
@@ -35,8 +37,7 @@ fn append_all(
     requires typed { types_of (columns_in columns.now) ≡ types_of (pairs_view builders.old.items) }
     requires even { (n : ℕ) × AreColumns n (columns_in columns.now) }
     ensures ok { OnOk result (pairs_view builders.new.items ≡ fields_appended (pairs_view builders.old.items) (columns_in columns.now)) }
-    ensures kept { (n : ℕ) → AllHaveRows n (pairs_view builders.old.items)
-        → field_parts 0 n (pairs_view builders.new.items) ≡ pairs_view builders.old.items }
+    ensures kept { FieldsKeep (pairs_view builders.old.items) (pairs_view builders.new.items) }
 {
     for at in 0..builders.len() {
         let builder = &mut builders[at];
@@ -55,9 +56,31 @@ fn append_fields(
     requires typed { types_of (columns_view columns.now) ≡ types_of (builders_view builders.old) }
     requires even { (n : ℕ) × AreColumns n (columns_view columns.now) }
     ensures ok { OnOk result (builders_view builders.new ≡ fields_appended (builders_view builders.old) (columns_view columns.now)) }
-    ensures kept { (n : ℕ) → AllHaveRows n (builders_view builders.old) → field_parts 0 n (builders_view builders.new) ≡ builders_view builders.old }
+    ensures kept { FieldsKeep (builders_view builders.old) (builders_view builders.new) }
 {
     append_all(alloc, &mut builders.builders, columns.as_slice())
+}
+
+/// Adds the rows of structs.
+#[cycle(appending)]
+#[tactic(auto, using(crate::proofs::KeepLemmas::structs_keep, crate::proofs::KeepLemmas::structs_same))]
+fn append_structs(
+    alloc: Global,
+    rows: &mut Flags,
+    builders: &mut Builders,
+    more: &StructRows,
+    columns: &Columns,
+) -> Result<(), AllocError>
+    requires there { are_there rows.old.nullable more.now.present ≡ true }
+    requires typed { types_of (columns_view columns.now) ≡ types_of (builders_view builders.old) }
+    requires even { (n : ℕ) × AreColumns n (columns_view columns.now) }
+    ensures rows { OnOk result (rows.new ≡ record rows.old { present = rows.old.present ++ more.now.present }) }
+    ensures fields { OnOk result (builders_view builders.new ≡ fields_appended (builders_view builders.old) (columns_view columns.now)) }
+    ensures kept { Keeps (structs rows.old (builders_view builders.old)) (structs rows.new (builders_view builders.new)) }
+{
+    let flags = more.flags(alloc)?;
+    rows.append(&flags)?;
+    append_fields(alloc, builders, columns)
 }
 
 /// Adds the rows of a column. Where memory refuses, some of them may be there, and the rows before are as they were.
@@ -66,15 +89,14 @@ fn append_to(alloc: Global, builder: &mut Builder, column: &Column) -> Result<()
     requires typed { dtype_of (column_view column.now) ≡ dtype_of (builder_view builder.old) }
     requires even { (n : ℕ) × IsColumn n (column_view column.now) }
     ensures ok { OnOk result (builder_view builder.new ≡ appended (builder_view builder.old) (column_view column.now)) }
-    ensures kept { (n : ℕ) → HasRows n (builder_view builder.old) → part 0 n (builder_view builder.new) ≡ builder_view builder.old }
+    ensures kept { Keeps (builder_view builder.old) (builder_view builder.new) }
 {
     match (builder, column) {
         (Builder::Bool(rows), Column::Bool(column)) => rows.append(column),
         (Builder::Int(rows), Column::Int(column)) => rows.append(alloc, column),
         (Builder::Text(rows), Column::Text(column)) => rows.append(column),
         (Builder::Struct(rows, builders), Column::Struct(structs, columns)) => {
-            rows.append(&structs.flags(alloc)?)?;
-            append_fields(alloc, builders, columns)
+            append_structs(alloc, rows, builders, structs, columns)
         }
         _ => unreachable!(),
     }

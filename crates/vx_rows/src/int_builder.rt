@@ -7,7 +7,7 @@ ghost use Rattle.vx_data.specs.TextsRead.{FailsToRead};
 ghost use Rattle.vx_rows.specs.Written.{is_within};
 ghost use Rattle.vx_rows.specs.Columns.{Ints, may_hold};
 ghost use Rattle.vx_rows.specs.Rows.{ints, AreWithin};
-ghost use Rattle.vx_rows.specs.Parts.{plain_size};
+ghost use Rattle.vx_rows.specs.Parts.{Keeps, plain_size};
 ghost use Rattle.vx_rows.specs.ReadValues.{optional_in, number_in};
 ghost use Rattle.vx_rows.specs.ReadRows.{more_ints, null_or};
 
@@ -137,12 +137,13 @@ impl IntBuilder {
     }
 
     /// Adds the rows of a column. Only memory refuses, and then nothing changes.
+    #[tactic(auto, using(crate::proofs::KeepLemmas::ints_same))]
     pub fn append(&mut self, alloc: Global, column: &IntColumn) -> Result<(), AllocError>
         requires same { column.now.ptype ≡ self.old.ptype }
         requires allowed { may_hold self.old.nullable column.now.rows ≡ true }
         requires within { AreWithin self.old.ptype column.now.rows }
         ensures ok { OnOk result (self.new ≡ record self.old { rows = self.old.rows ++ column.now.rows }) }
-        ensures kept { record self.new { rows = take (length self.old.rows) self.new.rows } ≡ self.old }
+        ensures kept { Keeps (ints self.old) (ints self.new) }
     {
         let flags = column.flags(alloc)?;
         let before = self.bytes.len();
@@ -169,7 +170,7 @@ impl IntBuilder {
     pub fn plain_size(&self) -> u64
         ensures { result ≡ min (plain_size (ints self.now)) (2 ^ 64 - 1) }
     {
-        size_of_ints(self.kind, self.present.is_nullable(), self.present.len())
+        size_of_ints(self.kind, self.present.is_nullable(), self.len())
     }
 
     /// A column of the rows so far. Only memory refuses.

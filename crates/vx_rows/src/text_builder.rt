@@ -7,7 +7,7 @@ ghost use Rattle.vx_data.specs.TextsRead.{FailsToRead, quoted_in};
 ghost use Rattle.vx_rows.specs.Columns.{Texts, may_hold};
 ghost use Rattle.vx_rows.specs.Rows.{texts};
 ghost use Rattle.vx_rows.specs.Written.{text_bytes};
-ghost use Rattle.vx_rows.specs.Parts.{plain_size};
+ghost use Rattle.vx_rows.specs.Parts.{Keeps, plain_size};
 ghost use Rattle.vx_rows.specs.ReadValues.{optional_in};
 ghost use Rattle.vx_rows.specs.ReadRows.{more_texts, null_or};
 
@@ -161,11 +161,11 @@ impl TextBuilder {
     }
 
     /// Adds the rows of a column. Only memory refuses, and then some of them may be there.
-    #[tactic(auto, using(crate::proofs::JoinLemmas::texts_next, crate::proofs::JoinLemmas::texts_none, crate::proofs::JoinLemmas::texts_all, crate::proofs::JoinLemmas::texts_before, crate::proofs::JoinLemmas::hold_at))]
+    #[tactic(auto, using(crate::proofs::JoinLemmas::texts_next, crate::proofs::JoinLemmas::texts_none, crate::proofs::JoinLemmas::texts_all, crate::proofs::KeepLemmas::texts_keep, crate::proofs::JoinLemmas::hold_at))]
     pub fn append(&mut self, column: &TextColumn) -> Result<(), AllocError>
         requires { may_hold self.old.nullable column.now.rows ≡ true }
         ensures ok { OnOk result (self.new ≡ record self.old { rows = self.old.rows ++ column.now.rows }) }
-        ensures kept { record self.new { rows = take (length self.old.rows) self.new.rows } ≡ self.old }
+        ensures kept { Keeps (texts self.old) (texts self.new) }
     {
         for row in 0..column.len() {
             self.push_row(column.is_present(row), column.text_or_empty(row))?;
@@ -196,12 +196,11 @@ impl TextBuilder {
     }
 
     /// How many bytes the texts have.
-    #[tactic(auto, using(crate::proofs::SpanLemmas::length_span))]
     fn bytes_len(&self) -> u64
         ensures { result ≡ min (sum_by (λ row. length (text_bytes row)) self.now.rows) (2 ^ 64 - 1) }
     {
         let mut size: u64 = 0;
-        for row in 0..self.present.len() {
+        for row in 0..self.len() {
             size = size.saturating_add(self.length_at(row) as u64);
         }
         size
@@ -211,11 +210,7 @@ impl TextBuilder {
     pub fn plain_size(&self) -> u64
         ensures { result ≡ min (plain_size (texts self.now)) (2 ^ 64 - 1) }
     {
-        size_of_texts(
-            self.present.is_nullable(),
-            self.present.len(),
-            self.bytes_len(),
-        )
+        size_of_texts(self.present.is_nullable(), self.len(), self.bytes_len())
     }
 
     /// A column of the rows so far. Only memory refuses.

@@ -4,7 +4,8 @@ use Rattle.vx_rows.specs.Columns.{Ints, Structs, may_hold}
 use Rattle.vx_data.specs.declared.ptype.PType.{PType}
 use Rattle.vx_rows.specs.Written.{cell}
 use Rattle.vx_rows.proofs.JoinLemmas.{ints_joined, ints_joined_well}
-use Rattle.vx_rows.proofs.CutBackLemmas.{ints_before, held_there}
+use Rattle.vx_rows.proofs.CutBackLemmas.{held_there}
+use Rattle.vx_rows.proofs.KeepLemmas.{ints_keep}
 use Rattle.vx_rows.proofs.int_builder.IntBuilder.append.Goals as goal
 
 pub append-requires : goal.append-requires
@@ -33,6 +34,6 @@ returns-in-Ok-clause-kept c =
     let flags : c.deref.result.now ≡ map is_some c.args.column.now.rows = search rules in
     let flag = c.in-Ok.ensures.ok ∙ ap (λ (fs : List Bool). record c.self.inside.present { present = c.self.inside.present.present ++ fs }) flags in
     let value = c.in_ok-push_cells.ensures.ok ∙ ap (λ (p : PType). c.self.inside.bytes.items ++ flat_map (cell p) c.args.column.now.rows) c.requires.same in
-    ints_before c.args.self.now _ c.args.column.now.rows
+    ints_keep c.args.self.now c.args.column.now.rows _
     (ints_joined c.self.inside.kind c.self.inside.present c.append.new.self c.self.inside.bytes.items c.push_cells.new.bytes.items c.args.column.now.rows c.args.self.now c.self.view_is
     c.self.invariant.0 c.self.invariant.1 c.requires.allowed c.requires.within flag value)
