@@ -17,7 +17,11 @@ use Rattle.vx_rows.specs.Parts.{appended}
 use Rattle.std.proofs.lemmas.List.{drop_all, map-append}
 use Rattle.std.proofs.lemmas.List.Sums.{sum_by-drop_more, sum_by-append, count_by-le-length}
 use Rattle.vx_rows.proofs.WrittenLemmas.{next_of}
-use Rattle.vx_rows.proofs.MakingLemmas.{map_long}
+use Rattle.vx_rows.proofs.MakingLemmas.{map_long, map_at}
+use Rattle.vx_data.specs.declared.stats_set.Stat.{Stat}
+use Rattle.vx_data.specs.declared.stats_set.Stat.TheVariants.{Min, Max, NullCount}
+use Rattle.vx_data.specs.declared.stats_set.Precision.{Precision}
+use Rattle.vx_data.specs.Stats.{Stats, stat_in, with_stat}
 use Rattle.vx_rows.specs.RowStats.{lesser, lesser_of, greater_of, least, greatest, nulls_in, masked, there, text_cmp, value_cmp, Summary, summary_by, summary}
 
 -- ---- a choice of two, in any order of choosing
@@ -183,28 +187,102 @@ seen_none (struct fs nullable) = refl
 pub nulls_few : {A : Type 0} → (xs : List (Option A)) → nulls_in xs ≤ length xs
 nulls_few xs = count_by-le-length (λ (row : Option _). not (is_some row)) xs
 
+-- ---- the rows of structs
+
+struct-at : (present ps : List Bool) (i : ℕ) → length present ≡ length ps → i < length ps
+    → slice_index_or (masked present (map there ps)) i None ≡ cond (slice_index_or present i true) (there (slice_index_or ps i true)) None
+struct-at present ps i e l =
+    let size = map_long there ps in
+    masked_at present (map there ps) i (omega (arith, e, size)) (omega (arith, l, size))
+    ∙ ap (λ (row : Option (Unit {0})). cond (slice_index_or present i true) row None) (map_at there ps i true None l)
+
+pub struct_hidden : (present ps : List Bool) (i : ℕ) → length present ≡ length ps → i < length ps → slice_index_or present i true ≡ false
+    → true ≡ not (is_some (slice_index_or (masked present (map there ps)) i None))
+struct_hidden present ps i e l h =
+    sym (ap (λ (row : Option (Unit {0})). not (is_some row)) (struct-at present ps i e l ∙ ap (λ b. cond b (there (slice_index_or ps i true)) None) h))
+
+pub struct_shown : (present ps : List Bool) (i : ℕ) → length present ≡ length ps → i < length ps → slice_index_or present i true ≡ true
+    → not (slice_index_or ps i true) ≡ not (is_some (slice_index_or (masked present (map there ps)) i None))
+struct_shown present ps i e l h =
+    sym (ap (λ (row : Option (Unit {0})). not (is_some row)) (struct-at present ps i e l ∙ ap (λ b. cond b (there (slice_index_or ps i true)) None) h) ∙ told (slice_index_or ps i true))
+  where
+    told : (b : Bool) → not (is_some (there b)) ≡ not b
+    told true = refl
+    told false = refl
+
+pub ruleset struct_nulls = (struct_hidden, struct_shown)
+
 -- ---- the steps of loops over the rows of a column
 
-pub flag_least : (xs : List (Option Bool)) (i : ℕ) (m : Option Bool) → i < length xs
-    → lesser_of bool_cmp (lesser_of bool_cmp m (slice_index_or xs i None)) (least bool_cmp (drop (i + 1) xs)) ≡ lesser_of bool_cmp m (least bool_cmp (drop i xs))
-flag_least = least_next bool_cmp bool_cmp_total
+few-bits : (b : Bool) → cond b 1 0 ≤ 1
+few-bits true = omega arith
+few-bits false = omega arith
 
-pub flag_greatest : (xs : List (Option Bool)) (i : ℕ) (m : Option Bool) → i < length xs
-    → greater_of bool_cmp (greater_of bool_cmp m (slice_index_or xs i None)) (greatest bool_cmp (drop (i + 1) xs)) ≡ greater_of bool_cmp m (greatest bool_cmp (drop i xs))
-flag_greatest = least_next (flip_args bool_cmp) (flip_total bool_cmp bool_cmp_total)
+-- nulls so far
+abbrev pub CountedNulls : {A : Type 0} → List (Option A) → ℕ → ℕ → Type 0
+CountedNulls rows i nulls = (nulls + nulls_in (drop i rows) ≡ nulls_in rows) × (nulls ≤ i)
 
-pub number_least : (xs : List (Option ℤ)) (i : ℕ) (m : Option ℤ) → i < length xs
-    → lesser_of int_cmp (lesser_of int_cmp m (slice_index_or xs i None)) (least int_cmp (drop (i + 1) xs)) ≡ lesser_of int_cmp m (least int_cmp (drop i xs))
-number_least = least_next int_cmp int_cmp_total
+pub nulls_step : {A : Type 0} → (rows : List (Option A)) (i nulls one : ℕ) → i < length rows → one ≡ cond (not (is_some (slice_index_or rows i None))) 1 0 → CountedNulls rows i nulls → CountedNulls rows (i + 1) (nulls + one)
+nulls_step rows i nulls one l e h =
+    let next = nulls_next rows i l in
+    let so = h.0 in
+    let few = h.1 in
+    let bit = few-bits (not (is_some (slice_index_or rows i None))) in
+    (omega (arith, next, so, e), omega (arith, few, e, bit))
 
-pub number_greatest : (xs : List (Option ℤ)) (i : ℕ) (m : Option ℤ) → i < length xs
-    → greater_of int_cmp (greater_of int_cmp m (slice_index_or xs i None)) (greatest int_cmp (drop (i + 1) xs)) ≡ greater_of int_cmp m (greatest int_cmp (drop i xs))
-number_greatest = least_next (flip_args int_cmp) (flip_total int_cmp int_cmp_total)
+pub nulls_done : {A : Type 0} → (rows : List (Option A)) (i nulls : ℕ) → length rows ≤ i → CountedNulls rows i nulls → nulls ≡ nulls_in rows
+nulls_done rows i nulls l h =
+    let none = nulls_end rows i l in
+    let so = h.0 in
+    omega (arith, none, so)
 
-pub text_least : (xs : List (Option (List ℕ))) (i : ℕ) (m : Option (List ℕ)) → i < length xs
-    → lesser_of text_cmp (lesser_of text_cmp m (slice_index_or xs i None)) (least text_cmp (drop (i + 1) xs)) ≡ lesser_of text_cmp m (least text_cmp (drop i xs))
-text_least = least_next text_cmp nat_list_cmp_total
+-- what the rows so far tell, with those still to come
+abbrev pub Gathered : {A : Type 0} → (A → A → Ordering) → List (Option A) → ℕ → Option A → Option A → ℕ → Type 0
+Gathered cmp rows i min max nulls =
+    (lesser_of cmp min (least cmp (drop i rows)) ≡ least cmp rows) × (greater_of cmp max (greatest cmp (drop i rows)) ≡ greatest cmp rows) × CountedNulls rows i nulls
 
-pub text_greatest : (xs : List (Option (List ℕ))) (i : ℕ) (m : Option (List ℕ)) → i < length xs
-    → greater_of text_cmp (greater_of text_cmp m (slice_index_or xs i None)) (greatest text_cmp (drop (i + 1) xs)) ≡ greater_of text_cmp m (greatest text_cmp (drop i xs))
-text_greatest = least_next (flip_args text_cmp) (flip_total text_cmp nat_list_cmp_total)
+module _ {A : Type 0} (cmp : A → A → Ordering) (t : IsTotalOrder cmp) (rows : List (Option A)) (i : ℕ) (min max : Option A) (nulls : ℕ) (h : Gathered cmp rows i min max nulls) where
+  pub gathered_step : (min' max' row : Option A) (one : ℕ) → i < length rows → row ≡ slice_index_or rows i None → min' ≡ lesser_of cmp min row → max' ≡ greater_of cmp max row
+      → one ≡ cond (not (is_some row)) 1 0 → Gathered cmp rows (i + 1) min' max' (nulls + one)
+  gathered_step min' max' row one l e low high count = (
+    ap (λ m. lesser_of cmp m (least cmp (drop (i + 1) rows))) (low ∙ ap (lesser_of cmp min) e) ∙ least_next cmp t rows i min l ∙ h.0,
+    ap (λ m. greater_of cmp m (greatest cmp (drop (i + 1) rows))) (high ∙ ap (greater_of cmp max) e) ∙ least_next (flip_args cmp) (flip_total cmp t) rows i max l ∙ h.1,
+    nulls_step rows i nulls one l (count ∙ ap (λ (r : Option A). cond (not (is_some r)) 1 0) e) h.2,
+  )
+
+  pub gathered_done : length rows ≤ i → (min ≡ least cmp rows) × (max ≡ greatest cmp rows) × (nulls ≡ nulls_in rows)
+  gathered_done l = (sym (least_end cmp t rows i min l) ∙ h.0, sym (least_end (flip_args cmp) (flip_total cmp t) rows i max l) ∙ h.1, nulls_done rows i nulls l h.2)
+
+  pub gathered_summary : (value : A → Value) (low high : Option Value) → length rows ≤ i → low ≡ option_map value min → high ≡ option_map value max
+      → ◌≡◌ {A = Summary} (record { min = low; max = high; nulls = nulls }) (summary_by value cmp rows)
+  gathered_summary value low high l a b =
+      let done = gathered_done l in
+      let first = a ∙ ap (option_map value) done.0 in
+      let last = b ∙ ap (option_map value) done.1 in
+      let count = done.2 in
+      λ i. record { min = first i; max = last i; nulls = count i }
+
+-- ---- summaries of two parts
+
+-- no more rows of a column are null than there are
+pub summary_few : (present : List Bool) (c : Rows) → length present ≡ rows_len c → (summary present c).nulls ≤ rows_len c
+summary_few present (bools c) e = let a = nulls_few (masked present c.rows) in let b = masked_long present c.rows e in omega (arith, a, b)
+summary_few present (ints c) e = let a = nulls_few (masked present c.rows) in let b = masked_long present c.rows e in omega (arith, a, b)
+summary_few present (texts c) e = let a = nulls_few (masked present c.rows) in let b = masked_long present c.rows e in omega (arith, a, b)
+summary_few present (structs c cs) e =
+    let size = map_long there c.present in
+    let a = nulls_few (masked present (map there c.present)) in
+    let b = masked_long present (map there c.present) (omega (arith, e, size)) in
+    omega (arith, a, b, size)
+
+-- what all columns tell, one behind the other
+pub summary_more : (old new : Summary) (q : List Bool) (d : Rows) → new ≡ joined old (summary q d)
+    → (c : Rows) → (p : List Bool) → length p ≡ rows_len c → dtype_of c ≡ dtype_of d → old ≡ summary p c → new ≡ summary (p ++ q) (appended c d)
+summary_more old new q d step c p l t e = step ∙ ap (λ (s : Summary). joined s (summary q d)) e ∙ sym (seen_more c d p q t l)
+
+-- ---- statistics that are not there
+
+pub unset : (stat : Stat) (s : Stats) → stat_in stat s ≡ None → s ≡ with_stat stat None s
+unset Min s h = ap (λ (m : Option (Value × Precision)). record { min = m; max = s.max; null_count = s.null_count }) h
+unset Max s h = ap (λ (m : Option (Value × Precision)). record { min = s.min; max = m; null_count = s.null_count }) h
+unset NullCount s h = ap (λ (m : Option (Value × Precision)). record { min = s.min; max = s.max; null_count = m }) h

@@ -1,16 +1,18 @@
 -- Rows that are kept while others are put behind them.
-use Rattle.std.proofs.Common.{◌≡◌, ℕ, zero, suc, ℤ, ◌+◌, ◌-◌, ◌<◌, ◌≤◌, Bool, List, [], ◌∷◌, ◌++◌, length, get_or, set, take, drop, Option, refl, ap, sym, ◌∙◌, subst, arith}
-use Rattle.std.specs.Prelude.{slice_range}
+use Rattle.std.proofs.Common.{◌≡◌, ℕ, zero, suc, ℤ, ◌+◌, ◌-◌, ◌<◌, ◌≤◌, Bool, true, false, List, [], ◌∷◌, ◌++◌, length, get_or, set, take, drop, Option, refl, ap, sym, ◌∙◌, subst, arith}
+use Rattle.std.specs.Prelude.{slice_range, ◌||◌}
 use Rattle.std.proofs.Math.Seq.{take-append_seam}
 use Rattle.vx_rows.specs.declared.builder.Builder.{Builder}
 use Rattle.vx_rows.specs.Columns.{Bools, Ints, Texts, Structs}
-use Rattle.vx_rows.specs.Rows.{Rows, FieldRows, bools, ints, texts, structs, HasRows, AllHaveRows}
+use Rattle.vx_rows.specs.Rows.{Rows, FieldRows, bools, ints, texts, structs, HasRows, AllHaveRows, IsColumn, AreColumns, rows_len, dtype_of}
+use Rattle.vx_data.specs.Dtype.{Dtype, FieldList, bool, int, text, struct, no_fields, field}
+use Rattle.vx_rows.specs.ReadRows.{no_rows, no_rows_each}
 use Rattle.vx_rows.specs.Builders.{builder_view, pairs_view}
-use Rattle.vx_rows.specs.Parts.{part, field_parts, Keeps, FieldsKeep}
+use Rattle.vx_rows.specs.Parts.{part, field_parts, appended, Keeps, FieldsKeep}
 use Rattle.vx_rows.proofs.BuildingLemmas.{Field}
-use Rattle.vx_rows.proofs.ColumnLaws.{all-kept, all-kept-fields, front-kept}
+use Rattle.vx_rows.proofs.ColumnLaws.{all-kept, all-kept-fields, front-kept, column_rows, rows_are, appended_is_column, part_is_column, part_type}
 use Rattle.vx_rows.proofs.JoinLemmas.{bools_upto, texts_upto}
-use Rattle.vx_rows.proofs.FieldGrowLemmas.{kept_set, next_builder}
+use Rattle.vx_rows.proofs.FieldGrowLemmas.{kept_set, rows_at}
 
 pub keep_same : (c d : Rows) → d ≡ c → Keeps c d
 keep_same c d e = record { front = λ n h. ap (part 0 n) e ∙ all-kept c n h }
@@ -49,16 +51,50 @@ structs_same c d cs ds e f = keep_same (structs c cs) (structs d ds) (ap (λ (x 
 
 -- ---- a field that has grown
 
-rows-left : (n : ℕ) (bs : List Field) (i : ℕ) → AllHaveRows n (pairs_view bs) → AllHaveRows n (pairs_view (drop i bs))
-rows-left n bs zero h = h
-rows-left n [] (suc i) h = h
-rows-left n (b ∷ bs) (suc i) h = rows-left n bs i h.1
-
-pub fields_keep_set : (bs starts : List Field) (i : ℕ) (b : Field) (b' : Builder) → i < length bs → b ≡ get_or bs i b → drop i bs ≡ drop i starts → Keeps (builder_view b.1) (builder_view b')
+pub fields_keep_set : (bs starts : List Field) (i : ℕ) (b : Field) (b' : Builder) → i < length bs → b ≡ get_or bs i b → i < length starts → b ≡ get_or starts i b → Keeps (builder_view b.1) (builder_view b')
     → FieldsKeep (pairs_view starts) (pairs_view bs) → FieldsKeep (pairs_view starts) (pairs_view (set bs i (b.0, b')))
-fields_keep_set bs starts i b b' l is same k all = record {
+fields_keep_set bs starts i b b' l is m same k all = record {
   front = λ n h.
-      let here : AllHaveRows n (pairs_view (b ∷ drop (i + 1) bs)) =
-      subst (λ (xs : List Field). AllHaveRows n (pairs_view xs)) (sym same ∙ next_builder bs i b l is) (rows-left n starts i h) in
-      kept_set bs i b b' n l is here.0 (k.front n here.0) ∙ all.front n h;
+      let here = rows_at n starts i b h m same in
+      kept_set bs i b b' n l is here (k.front n here) ∙ all.front n h;
 }
+
+-- ---- whole columns
+
+or-true : (b : Bool) → (b || true) ≡ true
+or-true true = refl
+or-true false = refl
+
+mutual
+  none-is-column : (d : Dtype) → IsColumn 0 (no_rows d)
+  none-is-column (bool nullable) = (refl, or-true nullable)
+  none-is-column (int p nullable) = (refl, or-true nullable, λ i d l. absurd (omega (arith, l)))
+  none-is-column (text nullable) = (refl, or-true nullable, λ i d l. absurd (omega (arith, l)))
+  none-is-column (struct fs nullable) = (refl, or-true nullable, none-are-columns fs)
+
+  none-are-columns : (fs : FieldList) → AreColumns 0 (no_rows_each fs)
+  none-are-columns no_fields = tt
+  none-are-columns (field name d fs) = (none-is-column d, none-are-columns fs)
+
+even-is : (n : ℕ) (c : Rows) → IsColumn n c → IsColumn (rows_len c) c
+even-is n c h = subst (λ k. IsColumn k c) (sym (rows_are n c (column_rows n c h))) h
+
+pub new_even : (d : Dtype) (c : Rows) → c ≡ no_rows d → IsColumn (rows_len c) c
+new_even d c e = subst (λ (x : Rows). IsColumn (rows_len x) x) (sym e) (even-is 0 (no_rows d) (none-is-column d))
+
+pub appended_even : (c d e : Rows) → dtype_of d ≡ dtype_of c → IsColumn (rows_len c) c → (m : ℕ) × IsColumn m d → e ≡ appended c d → IsColumn (rows_len e) e
+appended_even c d e t h g same =
+    subst (λ (x : Rows). IsColumn (rows_len x) x) (sym same) (even-is (rows_len c + g.0) (appended c d) (appended_is_column (rows_len c) g.0 c d (sym t) h g.1))
+
+-- what is cut back to the rows before
+pub cut_back : (c d e : Rows) (n : ℕ) → Keeps c d → e ≡ part 0 n d → n ≡ rows_len c → IsColumn (rows_len c) c → e ≡ c
+cut_back c d e n k same size h = same ∙ ap (λ m. part 0 m d) size ∙ k.front (rows_len c) (column_rows (rows_len c) c h)
+
+pub same_even : (c e : Rows) → IsColumn (rows_len c) c → e ≡ c → IsColumn (rows_len e) e
+same_even c e h same = subst (λ (x : Rows). IsColumn (rows_len x) x) (sym same) h
+
+pub part_even : (c p : Rows) (from to : ℕ) → from ≤ to → to ≤ rows_len c → IsColumn (rows_len c) c → p ≡ part from to c → (m : ℕ) × IsColumn m p
+part_even c p from to o l h e = (to - from, subst (IsColumn (to - from)) (sym e) (part_is_column (rows_len c) from to c o l h))
+
+pub part_typed : (c p d : Rows) (from to : ℕ) → p ≡ part from to c → dtype_of c ≡ dtype_of d → dtype_of p ≡ dtype_of d
+part_typed c p d from to e t = ap dtype_of e ∙ part_type from to c ∙ t

@@ -2,7 +2,7 @@
 ghost use Rattle.std.specs.Prelude.{◌≡◌, ◌<◌, length, slice_index_or, not, is_some, if◌then◌else◌, None, IfOk, map};
 ghost use Rattle.std.specs.Option.{option_map};
 ghost use Rattle.std.specs.Ordering.{bool_cmp, int_cmp};
-ghost use Rattle.vx_data.specs.Scalar.{scalar_view, words};
+ghost use Rattle.vx_data.specs.Scalar.{scalar_view, flag, number, words};
 ghost use Rattle.vx_rows.specs.Rows.{bools, ints, texts, structs, rows_len, column_view, columns_view};
 ghost use Rattle.vx_rows.specs.RowStats.{lesser_of, greater_of, masked, there, text_cmp, value_cmp, summary};
 
@@ -35,21 +35,19 @@ impl Model for Extent {
 fn lesser_flag(a: Option<bool>, b: Option<bool>) -> Option<bool>
     ensures { result ≡ lesser_of bool_cmp a b }
 {
-    match (a, b) {
-        (Some(true), Some(false)) => b,
-        (None, _) => b,
-        _ => a,
-    }
+    let (Some(first), Some(second)) = (a, b) else {
+        return a.or(b);
+    };
+    if first && !second { b } else { a }
 }
 
 fn greater_flag(a: Option<bool>, b: Option<bool>) -> Option<bool>
     ensures { result ≡ greater_of bool_cmp a b }
 {
-    match (a, b) {
-        (Some(false), Some(true)) => b,
-        (None, _) => b,
-        _ => a,
-    }
+    let (Some(first), Some(second)) = (a, b) else {
+        return a.or(b);
+    };
+    if second && !first { b } else { a }
 }
 
 fn lesser_number(a: Option<i128>, b: Option<i128>) -> Option<i128>
@@ -71,7 +69,7 @@ fn greater_number(a: Option<i128>, b: Option<i128>) -> Option<i128>
 }
 
 fn lesser_text<'a>(a: Option<&'a str>, b: Option<&'a str>) -> Option<&'a str>
-    ensures { option_map (λ v. v.now) result ≡ lesser_of text_cmp (option_map (λ v. v.now) a) (option_map (λ v. v.now) b) }
+    ensures { option_map (λ v. v.now) result ≡ lesser_of text_cmp (option_map (λ v. v.now) a.entry) (option_map (λ v. v.now) b.entry) }
 {
     let (Some(first), Some(second)) = (a, b) else {
         return a.or(b);
@@ -80,7 +78,7 @@ fn lesser_text<'a>(a: Option<&'a str>, b: Option<&'a str>) -> Option<&'a str>
 }
 
 fn greater_text<'a>(a: Option<&'a str>, b: Option<&'a str>) -> Option<&'a str>
-    ensures { option_map (λ v. v.now) result ≡ greater_of text_cmp (option_map (λ v. v.now) a) (option_map (λ v. v.now) b) }
+    ensures { option_map (λ v. v.now) result ≡ greater_of text_cmp (option_map (λ v. v.now) a.entry) (option_map (λ v. v.now) b.entry) }
 {
     let (Some(first), Some(second)) = (a, b) else {
         return a.or(b);
@@ -136,12 +134,41 @@ pub fn greater(a: Option<Scalar>, b: Option<Scalar>) -> Option<Scalar>
 
 // ---- the rows of a column
 
+/// 1 for a row that is null.
+fn null_of<T: Copy>(row: Option<T>) -> u64
+    ensures { result ≡ (if not (is_some row) then 1 else 0) }
+{
+    match row {
+        Some(_) => 0,
+        None => 1,
+    }
+}
+
 fn one_if(is_null: bool) -> u64
     ensures { result ≡ (if is_null then 1 else 0) }
 {
     if is_null { 1 } else { 0 }
 }
 
+fn as_flag(value: Option<bool>) -> Option<Scalar>
+    ensures { option_map scalar_view result ≡ option_map flag value }
+{
+    match value {
+        Some(value) => Some(Scalar::Bool(value)),
+        None => None,
+    }
+}
+
+fn as_number(value: Option<i128>) -> Option<Scalar>
+    ensures { option_map scalar_view result ≡ option_map number value }
+{
+    match value {
+        Some(value) => Some(Scalar::Int(value)),
+        None => None,
+    }
+}
+
+#[tactic(auto, using(crate::proofs::ExtentLemmas::masked_at))]
 fn flag_at(column: &BoolColumn, present: &Mask, row: usize) -> Option<bool>
     requires long { length present.now ≡ length column.now.rows }
     requires inside { row < length column.now.rows }
@@ -154,6 +181,7 @@ fn flag_at(column: &BoolColumn, present: &Mask, row: usize) -> Option<bool>
     }
 }
 
+#[tactic(auto, using(crate::proofs::ExtentLemmas::masked_at))]
 fn number_at(column: &IntColumn, present: &Mask, row: usize) -> Option<i128>
     requires long { length present.now ≡ length column.now.rows }
     requires inside { row < length column.now.rows }
@@ -166,6 +194,7 @@ fn number_at(column: &IntColumn, present: &Mask, row: usize) -> Option<i128>
     }
 }
 
+#[tactic(auto, using(crate::proofs::ExtentLemmas::masked_at))]
 fn text_at<'a>(column: &'a TextColumn, present: &Mask, row: usize) -> Option<&'a str>
     requires long { length present.now ≡ length column.now.rows }
     requires inside { row < length column.now.rows }
@@ -178,12 +207,16 @@ fn text_at<'a>(column: &'a TextColumn, present: &Mask, row: usize) -> Option<&'a
     }
 }
 
+#[tactic(auto, using(crate::proofs::ExtentLemmas::struct_nulls))]
 fn is_null_at(rows: &StructRows, present: &Mask, row: usize) -> bool
     requires long { length present.now ≡ length rows.now.present }
     requires inside { row < length rows.now.present }
     ensures { result ≡ not (is_some (slice_index_or (masked present.now (map there rows.now.present)) row None)) }
 {
-    !(present.get(row) && rows.is_present(row))
+    if !present.get(row) {
+        return true;
+    }
+    !rows.is_present(row)
 }
 
 /// Truth values.
@@ -198,11 +231,11 @@ fn extent_of_flags(column: &BoolColumn, present: &Mask) -> Extent
         let value = flag_at(column, present, row);
         min = lesser_flag(min, value);
         max = greater_flag(max, value);
-        nulls += one_if(value.is_none());
+        nulls += null_of(value);
     }
     Extent {
-        min: min.map(Scalar::Bool),
-        max: max.map(Scalar::Bool),
+        min: as_flag(min),
+        max: as_flag(max),
         nulls,
     }
 }
@@ -219,18 +252,18 @@ fn extent_of_numbers(column: &IntColumn, present: &Mask) -> Extent
         let value = number_at(column, present, row);
         min = lesser_number(min, value);
         max = greater_number(max, value);
-        nulls += one_if(value.is_none());
+        nulls += null_of(value);
     }
     Extent {
-        min: min.map(Scalar::Int),
-        max: max.map(Scalar::Int),
+        min: as_number(min),
+        max: as_number(max),
         nulls,
     }
 }
 
 /// A text of its own.
 fn owned(alloc: Global, text: Option<&str>) -> Result<Option<Scalar>, AllocError>
-    ensures { IfOk result (λ owned. option_map scalar_view owned ≡ option_map words (option_map (λ v. v.now) text)) }
+    ensures { IfOk result (λ owned. option_map scalar_view owned ≡ option_map words (option_map (λ v. v.now) text.entry)) }
 {
     match text {
         None => Ok(None),
@@ -250,7 +283,7 @@ fn extent_of_texts(alloc: Global, column: &TextColumn, present: &Mask) -> Result
         let value = text_at(column, present, row);
         min = lesser_text(min, value);
         max = greater_text(max, value);
-        nulls += one_if(value.is_none());
+        nulls += null_of(value);
     }
     Ok(Extent {
         min: owned(alloc, min)?,

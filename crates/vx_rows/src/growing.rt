@@ -137,6 +137,26 @@ fn truncate(builder: &mut Builder, rows: usize)
     }
 }
 
+/// Adds the rows of a column. Only memory refuses, and then nothing changes.
+#[tactic(auto, using(crate::proofs::KeepLemmas::appended_even, crate::proofs::KeepLemmas::same_even, crate::proofs::KeepLemmas::cut_back))]
+fn append_whole(alloc: Global, builder: &mut Builder, column: &Column) -> Result<(), AllocError>
+    requires typed { dtype_of (column_view column.now) ≡ dtype_of (builder_view builder.old) }
+    requires even { (n : ℕ) × IsColumn n (column_view column.now) }
+    requires old { IsColumn (rows_len (builder_view builder.old)) (builder_view builder.old) }
+    ensures ok { OnOk result (builder_view builder.new ≡ appended (builder_view builder.old) (column_view column.now)) }
+    ensures err { OnErr result (builder_view builder.new ≡ builder_view builder.old) }
+    ensures even { IsColumn (rows_len (builder_view builder.new)) (builder_view builder.new) }
+{
+    let before = len_of(builder);
+    match append_to(alloc, builder, column) {
+        Ok(()) => Ok(()),
+        Err(error) => {
+            truncate(builder, before);
+            Err(error)
+        }
+    }
+}
+
 /// The sum of the sizes of fields.
 #[cycle(weighing)]
 #[tactic(auto, using(crate::proofs::FieldGrowLemmas::builder_sizes))]
@@ -235,6 +255,7 @@ impl Model for GrowingColumn {
 
 impl GrowingColumn {
     /// No rows of a type. Only memory refuses.
+    #[tactic(auto, using(crate::proofs::KeepLemmas::new_even))]
     pub fn new(alloc: Global, dtype: &DType) -> Result<GrowingColumn, AllocError>
         ensures { IfOk result (λ growing. growing ≡ no_rows (dtype_view dtype.now)) }
     {
@@ -244,6 +265,7 @@ impl GrowingColumn {
     }
 
     /// Adds the rows of a column from one on, up to another. Only memory refuses, and then nothing changes.
+    #[tactic(auto, using(crate::proofs::KeepLemmas::part_even, crate::proofs::KeepLemmas::part_typed))]
     pub fn append(
         &mut self,
         alloc: Global,
@@ -259,14 +281,7 @@ impl GrowingColumn {
         ensures err { OnErr result (self.new ≡ self.old) }
     {
         let more = column.part(alloc, from, to)?;
-        let before = self.len();
-        match append_to(alloc, &mut self.builder, &more) {
-            Ok(()) => Ok(()),
-            Err(error) => {
-                truncate(&mut self.builder, before);
-                Err(error)
-            }
-        }
+        append_whole(alloc, &mut self.builder, &more)
     }
 
     /// The number of rows.

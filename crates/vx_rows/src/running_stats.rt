@@ -1,5 +1,5 @@
 //! Statistics of columns that come one after another.
-ghost use Rattle.std.specs.Prelude.{◌≡◌, ◌+◌, ◌<◌, ◌^◌, ◌++◌, [], List, Bool, if◌then◌else◌, length, IfOk, OnOk, OnErr};
+ghost use Rattle.std.specs.Prelude.{◌≡◌, ◌+◌, ◌<◌, ◌^◌, ◌++◌, [], List, Bool, if◌then◌else◌, None, length, IfOk, OnOk, OnErr};
 ghost use Rattle.std.specs.Option.{option_map};
 ghost use Rattle.vx_data.specs.declared.stats_set.Precision.TheVariants.{Exact};
 ghost use Rattle.vx_data.specs.Dtype.{Dtype};
@@ -70,15 +70,18 @@ fn bounded(value: Option<Scalar>) -> Option<Scalar>
     }
 }
 
-/// Sets a statistic, where it is wanted and there is one.
+/// Sets a statistic that is not known yet, where it is wanted and there is one.
+#[tactic(auto, using(crate::proofs::ExtentLemmas::unset))]
 fn put(set: &mut StatsSet, wanted: &[Stat], stat: Stat, value: Option<Scalar>)
-    ensures { set.new ≡ with_stat stat (if wants wanted.now stat then option_map (λ v. (scalar_view v, Exact)) value else stat_in stat set.old) set.old }
+    requires { stat_in stat set.old ≡ None }
+    ensures { set.new ≡ with_stat stat (if wants wanted.now stat then option_map (λ v. (scalar_view v, Exact)) value else None) set.old }
 {
     if !is_wanted(wanted, stat) {
         return;
     }
-    if let Some(value) = value {
-        set.set(stat, value, Precision::Exact);
+    match value {
+        Some(value) => set.set(stat, value, Precision::Exact),
+        None => {}
     }
 }
 
@@ -120,11 +123,18 @@ impl RunningStats {
     pub fn finish(self) -> StatsSet
         ensures { result ≡ stats_of self.wanted self.seen }
     {
+        let RunningStats {
+            wanted,
+            count: _,
+            min,
+            max,
+            nulls,
+        } = self;
         let mut set = StatsSet::new();
-        put(&mut set, &self.wanted, Stat::Min, bounded(self.min));
-        put(&mut set, &self.wanted, Stat::Max, bounded(self.max));
-        let nulls = Some(Scalar::Int(i128::from(self.nulls)));
-        put(&mut set, &self.wanted, Stat::NullCount, nulls);
+        put(&mut set, &wanted, Stat::Min, bounded(min));
+        put(&mut set, &wanted, Stat::Max, bounded(max));
+        let nulls = Scalar::Int(i128::from(nulls));
+        put(&mut set, &wanted, Stat::NullCount, Some(nulls));
         set
     }
 }

@@ -1,11 +1,8 @@
-use Rattle.std.proofs.Common.{◌≡◌, ◌≤◌, ◌+◌, drop}
 use Rattle.std.specs.Ordering.{bool_cmp}
-use Rattle.vx_rows.specs.RowStats.{lesser_of, greater_of, least, greatest, nulls_in, masked}
+use Rattle.vx_rows.specs.RowStats.{masked}
+use Rattle.vx_rows.proofs.ExtentLemmas.{Gathered}
 use Rattle.vx_rows.proofs.extents.extent_of_flags.Given as goal
 
 -- what the rows so far tell, with those still to come
 abbrev pub invariant-loop-row : goal.invariant-loop-row
-invariant-loop-row l =
-    (lesser_of bool_cmp l.min (least bool_cmp (drop l.row (masked l.present l.column.rows))) ≡ least bool_cmp (masked l.present l.column.rows))
-    × (greater_of bool_cmp l.max (greatest bool_cmp (drop l.row (masked l.present l.column.rows))) ≡ greatest bool_cmp (masked l.present l.column.rows))
-    × (l.nulls + nulls_in (drop l.row (masked l.present l.column.rows)) ≡ nulls_in (masked l.present l.column.rows)) × (l.nulls ≤ l.row)
+invariant-loop-row l = Gathered bool_cmp (masked l.present l.column.rows) l.row l.min l.max l.nulls
