@@ -30,10 +30,10 @@ module _ {A : Type 0} where
   -- with h for 'c is less than this' and k for 'this is less than a'
   chosen : (h k : A → Bool) (a b c : A) (p q r : Bool) → k b ≡ p → h b ≡ q → h a ≡ r → k c ≡ r → (p ≡ true → q ≡ true → r ≡ true) → (p ≡ false → q ≡ false → r ≡ false)
       → cond (h (cond p b a)) c (cond p b a) ≡ cond (k (cond q c b)) (cond q c b) a
-  chosen h k a b c true true r kb hb ha kc yes no = ap (λ x. cond x c b) hb ∙ sym (ap (λ x. cond x c a) (kc ∙ yes refl refl))
-  chosen h k a b c true false r kb hb ha kc yes no = ap (λ x. cond x c b) hb ∙ sym (ap (λ x. cond x b a) kb)
-  chosen h k a b c false true r kb hb ha kc yes no = ap (λ x. cond x c a) ha ∙ sym (ap (λ x. cond x c a) kc)
-  chosen h k a b c false false r kb hb ha kc yes no = ap (λ x. cond x c a) (ha ∙ no refl refl) ∙ sym (ap (λ x. cond x b a) kb)
+  chosen h k a b c true true r kb hb ha kc sure never = ap (λ x. cond x c b) hb ∙ sym (ap (λ x. cond x c a) (kc ∙ sure refl refl))
+  chosen h k a b c true false r kb hb ha kc sure never = ap (λ x. cond x c b) hb ∙ sym (ap (λ x. cond x b a) kb)
+  chosen h k a b c false true r kb hb ha kc sure never = ap (λ x. cond x c a) ha ∙ sym (ap (λ x. cond x c a) kc)
+  chosen h k a b c false false r kb hb ha kc sure never = ap (λ x. cond x c a) (ha ∙ never refl refl) ∙ sym (ap (λ x. cond x b a) kb)
 
   module _ (cmp : A → A → Ordering) (t : IsTotalOrder cmp) where
     is-less : (o : Ordering) → is_lt o ≡ true → o ≡ Less

@@ -7,7 +7,7 @@ use Rattle.vx_data.specs.Dtype.{FieldList}
 use Rattle.vx_rows.specs.declared.builder.Builder.{Builder}
 use Rattle.vx_rows.specs.declared.column.Column.{Column}
 use Rattle.vx_rows.specs.Rows.{Rows, FieldRows, no_columns, column, column_view, viewed, pairs_view as columns_in, types_of, HasRows, AllHaveRows, AreColumns, IsColumn, dtype_of}
-use Rattle.vx_rows.specs.Trees.{before}
+use Rattle.vx_rows.specs.Trees.{before, type_size, fields_size}
 use Rattle.vx_rows.specs.Builders.{builder_view, built, pairs_view}
 use Rattle.vx_rows.specs.Parts.{part, field_parts, appended, fields_appended, plain_size, fields_plain_size}
 use Rattle.vx_rows.proofs.TreeLemmas.{added, before-none}
@@ -58,6 +58,16 @@ builder_type (x ∷ bs) [] i b c e lb ib lc ic = absurd (omega (arith, lc))
 builder_type (x ∷ bs) (y ∷ cs) zero b c e lb ib lc ic =
     ap (λ (z : String Global × Column). dtype_of (column_view z.1)) ic ∙ first-type _ _ _ _ _ _ e ∙ sym (ap (λ (z : Field). dtype_of (builder_view z.1)) ib)
 builder_type (x ∷ bs) (y ∷ cs) (suc i) b c e lb ib lc ic = builder_type bs cs i b c (rest-types _ _ _ _ _ _ e) (omega (arith, lb)) ib (omega (arith, lc)) ic
+
+-- a column is no larger than all of them
+pub column_size : (cs : List (String Global × Column)) (i : ℕ) (c : String Global × Column) → i < length cs → c ≡ get_or cs i c → type_size (dtype_of (column_view c.1)) ≤ fields_size (types_of (columns_in cs))
+column_size [] i c l is = absurd (omega (arith, l))
+column_size (x ∷ cs) zero c l is =
+    let e : type_size (dtype_of (column_view c.1)) ≡ type_size (dtype_of (column_view x.1)) = ap (λ (y : String Global × Column). type_size (dtype_of (column_view y.1))) is in
+    omega (arith, e)
+column_size (x ∷ cs) (suc i) c l is =
+    let h = column_size cs i c (omega (arith, l)) is in
+    omega (arith, h)
 
 pub column_at : (n : ℕ) (cs : List (String Global × Column)) (i : ℕ) (c : String Global × Column) → AreColumns n (columns_in cs) → i < length cs → c ≡ get_or cs i c → IsColumn n (column_view c.1)
 column_at n [] i c h l is = absurd (omega (arith, l))

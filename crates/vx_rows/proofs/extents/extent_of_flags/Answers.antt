@@ -11,7 +11,7 @@ loop-row-preserved c =
     let long = masked_long c.args.present.now c.args.column.now.rows c.requires in
     let less : c.loop-row.row < length c.args.column.now.rows = search rules in
     gathered_step bool_cmp bool_cmp_total (masked c.args.present.now c.args.column.now.rows) c.loop-row.row c.loop-row.min c.loop-row.max c.loop-row.nulls c.loop-row.invariant
-    c.lesser_flag-min.result c.greater_flag-max.result c.flag_at-value.result c.null_of.result (omega (arith, less, long)) c.flag_at-value.ensures c.lesser_flag-min.ensures c.greater_flag-max.ensures c.null_of.ensures
+    c.lesser_flag-min.result c.greater_flag-max.result c.flag_at-value.result c.null_of-nulls.result (omega (arith, less, long)) c.flag_at-value.ensures c.lesser_flag-min.ensures c.greater_flag-max.ensures c.null_of-nulls.ensures
 
 pub returns : goal.returns
 returns c =

@@ -11,7 +11,7 @@ loop-row-preserved c =
     let long = masked_long c.args.present.now c.args.column.now.rows c.requires in
     let less : c.loop-row.row < length c.args.column.now.rows = search rules in
     gathered_step int_cmp int_cmp_total (masked c.args.present.now c.args.column.now.rows) c.loop-row.row c.loop-row.min c.loop-row.max c.loop-row.nulls c.loop-row.invariant
-    c.lesser_number-min.result c.greater_number-max.result c.number_at-value.result c.null_of.result (omega (arith, less, long)) c.number_at-value.ensures c.lesser_number-min.ensures c.greater_number-max.ensures c.null_of.ensures
+    c.lesser_number-min.result c.greater_number-max.result c.number_at-value.result c.null_of-nulls.result (omega (arith, less, long)) c.number_at-value.ensures c.lesser_number-min.ensures c.greater_number-max.ensures c.null_of-nulls.ensures
 
 pub returns : goal.returns
 returns c =

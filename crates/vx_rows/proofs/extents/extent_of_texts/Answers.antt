@@ -1,7 +1,8 @@
 use Rattle.std.proofs.Common.{Bor, List, ℕ, option_map, ◌<◌, ◌≤◌, length, rules, arith}
 use Rattle.std.specs.Cmp.Lexicographic.{nat_list_cmp_total}
 use Rattle.vx_rows.specs.RowStats.{masked, text_cmp}
-use Rattle.vx_rows.proofs.ExtentLemmas.{gathered_step, masked_long}
+use Rattle.vx_data.specs.Scalar.{words}
+use Rattle.vx_rows.proofs.ExtentLemmas.{gathered_step, gathered_summary, masked_long}
 use Rattle.vx_rows.proofs.extents.extent_of_texts.Goals as goal
 
 pub loop-row-preserved : goal.loop-row-preserved
@@ -10,3 +11,10 @@ loop-row-preserved c =
     let less : c.loop-row.row < length c.args.column.now.rows = search rules in
     gathered_step text_cmp nat_list_cmp_total (masked c.args.present.now c.args.column.now.rows) c.loop-row.row _ _ c.loop-row.nulls c.loop-row.invariant
     _ _ _ c.null_of.result (omega (arith, less, long)) c.text_at-value.ensures c.lesser_text-min.ensures c.greater_text-max.ensures (search rules)
+
+pub returns : goal.returns
+returns c =
+    let long = masked_long c.args.present.now c.args.column.now.rows c.requires in
+    let past : length c.args.column.now.rows ≤ c.loop-row.row = search rules in
+    gathered_summary text_cmp nat_list_cmp_total (masked c.args.present.now c.args.column.now.rows) c.loop-row.row _ _ c.loop-row.nulls c.loop-row.invariant
+    words _ _ (omega (arith, past, long)) c.in_ok-owned.ensures c.in_ok-owned-2.ensures

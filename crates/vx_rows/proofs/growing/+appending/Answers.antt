@@ -3,8 +3,9 @@ use Rattle.std.specs.Prelude.{String}
 use Rattle.std.specs.Global.{Global}
 use Rattle.vx_rows.specs.declared.column.Column.{Column}
 use Rattle.vx_rows.specs.Rows.{column_view, pairs_view as columns_in, dtype_of, IsColumn}
+use Rattle.vx_rows.specs.Trees.{type_size}
 use Rattle.vx_rows.specs.Builders.{pairs_view}
-use Rattle.vx_rows.proofs.FieldGrowLemmas.{append_more, append_end, as_many_builders, builder_type, column_at}
+use Rattle.vx_rows.proofs.FieldGrowLemmas.{append_more, append_end, as_many_builders, builder_type, column_at, column_size}
 use Rattle.vx_rows.proofs.KeepLemmas.{fields_same, fields_keep_set}
 use Rattle.vx_rows.proofs.growing.+appending.Goals as goal
 
@@ -30,8 +31,10 @@ append_all-append_to-requires t c =
     let less : c.loop-at.at < length c.args.builders.now.items = search rules in
     let inside : c.loop-at.at < length c.args.columns.now = omega (arith, less, many) in
     let here : c.index_mut-builder.result.now ≡ get_or c.loop-at.builders.items c.loop-at.at c.index_mut-builder.result.now = search rules in
-    let there = here ∙ c.loop-at.invariant.0.1 c.loop-at.at c.index_mut-builder.result.now (omega arith) in (
-      search rules,
+    let there = here ∙ c.loop-at.invariant.0.1 c.loop-at.at c.index_mut-builder.result.now (omega arith) in
+    let same = ap (λ (x : String Global × Column). type_size (dtype_of (column_view x.1))) c.index-columns-at.is in
+    let size = column_size c.args.columns.now c.loop-at.at c.index-columns-at.result inside c.index-columns-at.is in (
+      omega (arith, size, same, c.decreases),
       (
         sym (ap (λ (x : String Global × Column). dtype_of (column_view x.1)) c.index-columns-at.is)
             ∙ builder_type c.args.builders.now.items c.args.columns.now c.loop-at.at c.index_mut-builder.result.now c.index-columns-at.result c.requires.typed less there inside c.index-columns-at.is,
