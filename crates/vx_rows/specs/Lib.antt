@@ -12,3 +12,12 @@ pub mod ReadRows
 pub mod Kept
 pub mod Builders
 pub mod PrintedRows
+pub mod RowValues
+pub mod Predicates
+pub mod Binding
+pub mod Truth
+pub mod CellViews
+pub mod Lent
+pub mod Bounds
+pub mod Operands
+pub mod Fields
