@@ -27,3 +27,6 @@ pub mod DecimalLemmas
 pub mod PrintedBackLemmas
 pub mod ReadSoundLemmas
 pub mod ReadOnlyLemmas
+pub mod PlaceLemmas
+pub mod FieldRowLemmas
+pub mod EvaluatedLemmas

@@ -93,10 +93,11 @@ pub fn field_rows<'a>(
     ensures { IfOk result (IsValueOf (path_of path.now) (dtype_view dtype.now) (column_view column.now)) }
 {
     let count = column.len();
+    let names = path.parts();
     let mut here = dtype;
     let mut below = column;
     let mut shown = None;
-    for name in path.parts() {
+    for name in names {
         let (place, inner) = match place_of_field(here, name.as_str()) {
             None => return Ok(Operand::Value(Cell::Null)),
             Some(found) => found,

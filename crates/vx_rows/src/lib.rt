@@ -63,4 +63,6 @@ pub use struct_rows::StructRows;
 pub use text_column::TextColumn;
 
 #[cfg(test)]
+mod predicate_tests;
+#[cfg(test)]
 mod tests;
