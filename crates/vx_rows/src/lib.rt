@@ -53,6 +53,7 @@ pub use encode_error::EncodeError;
 pub use encoding::encode_array;
 pub use int_column::IntColumn;
 pub use mask::Mask;
+pub use places::place_of_field;
 pub use predicate::{Comparison, Predicate};
 pub use printing::{push_rows, row_text};
 pub use row_reading::read_rows;
