@@ -21,3 +21,4 @@ pub mod Lent
 pub mod Bounds
 pub mod Operands
 pub mod Fields
+pub mod LayoutReaders
