@@ -157,7 +157,7 @@ fn is_equal(a: Option<&Scalar>, b: Option<&Scalar>) -> bool
 
 /// Whether a comparison of values within bounds is never true.
 fn is_excluded(op: Comparison, a: Known, b: Known) -> bool
-    ensures { result ≡ never_by op (known_view a) (known_view b) }
+    ensures { result ≡ never_by op (known_view a.entry) (known_view b.entry) }
 {
     match op {
         Comparison::Eq => is_below(a.high, b.low) || is_below(b.high, a.low),
@@ -173,7 +173,7 @@ fn is_excluded(op: Comparison, a: Known, b: Known) -> bool
 
 /// Whether a comparison of operands is never true.
 pub fn is_never_met(op: Comparison, a: Known, b: Known) -> bool
-    ensures { result ≡ never_compare op (known_view a) (known_view b) }
+    ensures { result ≡ never_compare op (known_view a.entry) (known_view b.entry) }
 {
     a.always_null || b.always_null || is_excluded(op, a, b)
 }
@@ -189,7 +189,7 @@ fn is_false(value: Option<&Scalar>) -> bool
 
 /// Whether an operand is never true.
 pub fn is_never_true(operand: Known) -> bool
-    ensures { result ≡ never_true (known_view operand) }
+    ensures { result ≡ never_true (known_view operand.entry) }
 {
     operand.always_null || is_false(operand.high)
 }

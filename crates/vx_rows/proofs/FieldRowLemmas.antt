@@ -1,6 +1,6 @@
 -- The rows of fields, one name after the other.
 use Rattle.std.proofs.Common.{◌≡◌, ℕ, zero, suc, ◌+◌, ◌<◌, ◌≤◌, Bool, true, false, List, [], ◌∷◌, length, get_or, drop, refl, ap, sym, ◌∙◌, arith}
-use Rattle.std.specs.Prelude.{String, string_bytes, map, ◌&&◌, Option, Some, None}
+use Rattle.std.specs.Prelude.{String, string_bytes, map, slice_index_or, ◌&&◌, Option, Some, None}
 use Rattle.std.specs.Option.{option_map}
 use Rattle.std.specs.Global.{Global}
 use Rattle.std.specs.Borrow.{Bor}
@@ -10,7 +10,9 @@ use Rattle.vx_rows.specs.declared.cell.Cell.TheVariants.{Null}
 use Rattle.vx_rows.specs.declared.column.Column.{Column}
 use Rattle.vx_rows.specs.declared.operand.Operand.TheVariants.{Value, Rows as RowsOf}
 use Rattle.vx_rows.specs.Columns.{Structs}
-use Rattle.vx_rows.specs.Rows.{Rows, FieldRows, bools, ints, texts, structs, no_columns, column, rows_len, column_view}
+use Rattle.vx_rows.specs.Span.{span, every}
+use Rattle.vx_rows.proofs.SpanLemmas.{get_or_span, every_all}
+use Rattle.vx_rows.specs.Rows.{Rows, FieldRows, bools, ints, texts, structs, no_columns, column, rows_len, column_view, pairs_view}
 use Rattle.vx_rows.specs.RowValues.{Cell, null, Row, Parts, flat, of_parts, cell, nth_part, part_at, if_there, row_in, parts_in}
 use Rattle.vx_rows.specs.Predicates.{path}
 use Rattle.vx_rows.specs.Binding.{place, with_place}
@@ -49,7 +51,7 @@ part-row i (ints c) s x row h = cc
 part-row i (texts c) s x row h = cc
 part-row i (structs c cs) s x row h = found (nth_column i cs) refl h
   where
-    found : (o : Option Rows) → nth_column i cs ≡ o → option_map (λ y. (c, y)) o ≡ Some (s, x) → part_at i (row_in (structs c cs) row) ≡ if_there (is_there s row) (row_in x row)
+    found : (o : Option Rows) → nth_column i cs ≡ o → option_map {U = Structs × Rows} (λ y. (c, y)) o ≡ Some (s, x) → part_at i (row_in (structs c cs) row) ≡ if_there (is_there s row) (row_in x row)
     found None is h = cc
     found (Some y) is h =
         let pair : (c, y) ≡ (s, x) = cc in
@@ -64,18 +66,18 @@ part-none i (ints c) row h = refl
 part-none i (texts c) row h = refl
 part-none i (structs c cs) row h = found (nth_column i cs) refl h
   where
-    found : (o : Option Rows) → nth_column i cs ≡ o → option_map (λ y. (c, y)) o ≡ None → part_at i (row_in (structs c cs) row) ≡ flat null
+    found : (o : Option Rows) → nth_column i cs ≡ o → option_map {U = Structs × Rows} (λ y. (c, y)) o ≡ None → part_at i (row_in (structs c cs) row) ≡ flat null
     found None is h = hidden-part i (is_there c row) (of_parts (parts_in cs row)) ∙ ap (if_there (is_there c row)) (nth-none i cs row is) ∙ hidden-null (is_there c row)
     found (Some y) is h = cc
 
 -- what is null has null parts
 null-below : (names : List (List ℕ)) (d : Dtype) → row_at names d (flat null) ≡ flat null
 null-below [] d = refl
-null-below (name ∷ names) d = found (place name d)
+null-below (name ∷ names) d = found (null-below names) (place name d)
   where
-    found : (o : Option (ℕ × Dtype)) → with_place o (flat null) (λ i e. row_at names e (part_at i (flat null))) ≡ flat null
-    found None = refl
-    found (Some (i, e)) = null-below names e
+    found : ((e : Dtype) → row_at names e (flat null) ≡ flat null) → (o : Option (ℕ × Dtype)) → with_place o (flat null) (λ i e. row_at names e (part_at i (flat null))) ≡ flat null
+    found below None = refl
+    found below (Some (i, e)) = below e
 
 -- ---- one name further
 
@@ -87,7 +89,7 @@ pub walked_first : (all : List (List ℕ)) (d : Dtype) (c : Rows) → Walked all
 walked_first all d c = record { same = λ row less. refl }
 
 on-names : (name : List ℕ) (names : List (List ℕ)) (d : Dtype) (r : Row) (k : ℕ) (e : Dtype) → place name d ≡ Some (k, e) → row_at (name ∷ names) d r ≡ row_at names e (part_at k r)
-on-names name names d r k e here = ap (λ p. with_place p (flat null) (λ i e. row_at names e (part_at i r))) here
+on-names name names d r k e here = ap (λ p. with_place p (flat null) (λ k e. row_at names e (part_at k r))) here
 
 pub walked_on : (all : List (List ℕ)) (d : Dtype) (c : Rows) (names : List (String Global)) (i : ℕ) (n : String Global) (here inner : Dtype) (below part : Rows) (k : ℕ) (s : Structs)
     (shown less : Option (List Bool)) → Walked all d c (map string_bytes (drop i names)) here below shown → i < length names → n ≡ get_or names i n
@@ -110,7 +112,7 @@ pub walked_end : (all : List (List ℕ)) (d : Dtype) (c : Rows) (names : List (S
     → Walked all d c (map string_bytes (drop i names)) here (column_view below.now) shown → length names ≤ i → IsValueOf (path all) d c (RowsOf below shown)
 walked_end all d c names i here below shown so past = record {
   same = λ row inside.
-      ap cell (sym (ap (λ ns. row_at (map string_bytes ns) here (shown_row shown (column_view below.now) row)) (drop_all names i past)) ∙ so.same row inside);
+      ap cell (sym (ap (λ ns. row_at (map string_bytes ns) here (shown_row shown (column_view below.now) row)) (drop_all i names past)) ∙ so.same row inside);
 }
 
 pub walked_off : (all : List (List ℕ)) (d : Dtype) (c : Rows) (names : List (String Global)) (i : ℕ) (n : String Global) (here : Dtype) (below : Rows) (shown : Option (List Bool))
@@ -121,7 +123,7 @@ walked_off all d c names i n here below shown so lt is found = record {
       let r = shown_row shown below row in
       let off : row_at (map string_bytes (drop i names)) here r ≡ flat null =
       ap (λ ns. row_at ns here r) (next_name names i n lt is)
-      ∙ ap (λ p. with_place p (flat null) (λ i e. row_at (map string_bytes (drop (i + 1) names)) e (part_at i r))) found in
+      ∙ ap (λ p. with_place p (flat null) (λ k e. row_at (map string_bytes (drop (i + 1) names)) e (part_at k r))) found in
       ap cell (sym off ∙ so.same row inside);
 }
 
@@ -139,3 +141,29 @@ walked_out all d c names i n here inner below k shown so lt is found none = reco
       ∙ ap (row_at rest inner) out ∙ null-below rest inner in
       ap cell (sym off ∙ so.same row inside);
 }
+
+-- ---- columns at places, and hidden rows
+
+pub nth_past : (cs : List (String Global × Column)) (i : ℕ) → length cs ≤ i → nth_column i (pairs_view cs) ≡ None
+nth_past [] i h = refl
+nth_past (c ∷ cs) zero h = absurd (omega arith)
+nth_past (c ∷ cs) (suc i) h = nth_past cs i (omega arith)
+
+pub nth_there : (cs : List (String Global × Column)) (i : ℕ) (d : String Global × Column) → i < length cs → Some (column_view (slice_index_or cs i d).1) ≡ nth_column i (pairs_view cs)
+nth_there [] i d h = absurd (omega arith)
+nth_there (c ∷ cs) zero d h = refl
+nth_there (c ∷ cs) (suc i) d h = nth_there cs i d (omega arith)
+
+and-true : (a b : Bool) → b ≡ true → a ≡ (a && b)
+and-true true b h = sym h
+and-true false b h = refl
+
+-- where each struct is there, nothing more is hidden
+pub hides_none : (shown : Option (List Bool)) (c : Structs) (n : ℕ) → every (is_there c) 0 n ≡ true → Hides shown c n shown
+hides_none shown c n h = record { same = λ row less.
+    let there : is_there c row ≡ true = ap (is_there c) (omega arith) ∙ every_all (is_there c) 0 n h row less in
+    and-true (is_shown shown row) (is_there c row) there }
+
+pub hides_some : (shown : Option (List Bool)) (c : Structs) (n : ℕ) (bits : List Bool) → bits ≡ span (shown_and_there shown c) 0 n → Hides shown c n (Some bits)
+hides_some shown c n bits is = record { same = λ row less.
+    ap (λ xs. slice_index_or xs row true) is ∙ get_or_span (shown_and_there shown c) 0 n row true less ∙ ap (shown_and_there shown c) (omega arith) }

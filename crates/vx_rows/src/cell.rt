@@ -103,7 +103,7 @@ fn is_met(op: Comparison, order: Ordering) -> bool
 /// A comparison of values; null where an operand is.
 #[inline(always)]
 pub fn compare(op: Comparison, a: Cell, b: Cell) -> Option<bool>
-    ensures { result ≡ compared op (cell_view a) (cell_view b) }
+    ensures { result ≡ compared op (cell_view a.entry) (cell_view b.entry) }
 {
     match (a, b) {
         (Cell::Bool(x), Cell::Bool(y)) => Some(is_met(op, x.cmp(&y))),
@@ -116,7 +116,7 @@ pub fn compare(op: Comparison, a: Cell, b: Cell) -> Option<bool>
 /// A sum within a type; null where an operand is.
 #[inline(always)]
 pub fn add(kind: Result<Kind, BindError>, a: Cell, b: Cell) -> Option<i128>
-    ensures { result ≡ summed kind (cell_view a) (cell_view b) }
+    ensures { result ≡ summed kind (cell_view a.entry) (cell_view b.entry) }
 {
     let ptype = match kind {
         Ok(Kind::Int(ptype)) => ptype,
@@ -137,7 +137,7 @@ pub fn add(kind: Result<Kind, BindError>, a: Cell, b: Cell) -> Option<i128>
 /// A cell as a truth value: null where it is none.
 #[inline(always)]
 pub fn truth_of(cell: Cell) -> Option<bool>
-    ensures { result ≡ to_truth (cell_view cell) }
+    ensures { result ≡ to_truth (cell_view cell.entry) }
 {
     match cell {
         Cell::Bool(b) => Some(b),
@@ -148,7 +148,7 @@ pub fn truth_of(cell: Cell) -> Option<bool>
 /// Whether there is nothing.
 #[inline(always)]
 pub fn is_null(cell: Cell) -> bool
-    ensures { result ≡ null_cell (cell_view cell) }
+    ensures { result ≡ null_cell (cell_view cell.entry) }
 {
     match cell {
         Cell::Null => true,
