@@ -1,10 +1,10 @@
 -- What the nodes of a predicate are at each row, where their operands are known.
-use Rattle.std.proofs.Common.{◌≡◌, ℕ, ◌+◌, ◌<◌, Bool, true, false, List, length, refl, ap, sym, ◌∙◌, arith}
+use Rattle.std.proofs.Common.{◌≡◌, ℕ, ◌<◌, Bool, List, refl, ap, sym, ◌∙◌, arith}
 use Rattle.std.specs.Prelude.{slice_index_or, Option, Some, None, Vec, Result, ℤ, not}
 use Rattle.std.specs.Global.{Global}
 use Rattle.std.specs.Borrow.{Bor}
 use Rattle.vx_data.specs.Dtype.{Dtype}
-use Rattle.vx_data.specs.Scalar.{Value, flag}
+use Rattle.vx_data.specs.Scalar.{Value}
 use Rattle.vx_rows.specs.declared.kind.Kind.{Kind}
 use Rattle.vx_rows.specs.declared.bind_error.BindError.{BindError}
 use Rattle.vx_rows.specs.declared.predicate.Comparison.{Comparison}
@@ -19,7 +19,7 @@ use Rattle.vx_rows.specs.CellViews.{cell_view}
 use Rattle.vx_rows.specs.Predicates.{Pred, lit, root, path, cast, add, compare, both, either, negated, null_test, present_test}
 use Rattle.vx_rows.specs.Binding.{kind_in}
 use Rattle.vx_rows.specs.Truth.{to_truth, kleene_and, kleene_or, kleene_not, is_null, is_true, compared, summed, value_at, is_satisfied, rows_satisfying}
-use Rattle.vx_rows.specs.Operands.{operand_at, compared_at, summed_at, and_at, or_at, not_at, null_at, present_at, true_at, IsValueOf}
+use Rattle.vx_rows.specs.Operands.{compared_at, summed_at, and_at, or_at, not_at, null_at, present_at, true_at, IsValueOf}
 use Rattle.vx_rows.proofs.SpanLemmas.{get_or_span, span_same}
 
 at-row : {A : Type 0} → (f : ℕ → Option A) (xs : List (Option A)) (n row : ℕ) → xs ≡ span f 0 n → row < n → slice_index_or xs row None ≡ f row

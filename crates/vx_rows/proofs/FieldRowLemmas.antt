@@ -13,7 +13,7 @@ use Rattle.vx_rows.specs.Columns.{Structs}
 use Rattle.vx_rows.specs.Span.{span, every}
 use Rattle.vx_rows.proofs.SpanLemmas.{get_or_span, every_all}
 use Rattle.vx_rows.specs.Rows.{Rows, FieldRows, bools, ints, texts, structs, no_columns, column, rows_len, column_view, pairs_view}
-use Rattle.vx_rows.specs.RowValues.{Cell, null, Row, Parts, flat, of_parts, cell, nth_part, part_at, if_there, row_in, parts_in}
+use Rattle.vx_rows.specs.RowValues.{null, Row, flat, of_parts, cell, nth_part, part_at, if_there, row_in, parts_in}
 use Rattle.vx_rows.specs.Predicates.{path}
 use Rattle.vx_rows.specs.Binding.{place, with_place}
 use Rattle.vx_rows.specs.Truth.{row_at}
@@ -160,10 +160,14 @@ and-true false b h = refl
 
 -- where each struct is there, nothing more is hidden
 pub hides_none : (shown : Option (List Bool)) (c : Structs) (n : ℕ) → every (is_there c) 0 n ≡ true → Hides shown c n shown
-hides_none shown c n h = record { same = λ row less.
-    let there : is_there c row ≡ true = ap (is_there c) (omega arith) ∙ every_all (is_there c) 0 n h row less in
-    and-true (is_shown shown row) (is_there c row) there }
+hides_none shown c n h = record {
+  same = λ row less.
+      let there : is_there c row ≡ true = ap (is_there c) (omega arith) ∙ every_all (is_there c) 0 n h row less in
+      and-true (is_shown shown row) (is_there c row) there;
+}
 
 pub hides_some : (shown : Option (List Bool)) (c : Structs) (n : ℕ) (bits : List Bool) → bits ≡ span (shown_and_there shown c) 0 n → Hides shown c n (Some bits)
-hides_some shown c n bits is = record { same = λ row less.
-    ap (λ xs. slice_index_or xs row true) is ∙ get_or_span (shown_and_there shown c) 0 n row true less ∙ ap (shown_and_there shown c) (omega arith) }
+hides_some shown c n bits is = record {
+  same = λ row less.
+      ap (λ xs. slice_index_or xs row true) is ∙ get_or_span (shown_and_there shown c) 0 n row true less ∙ ap (shown_and_there shown c) (omega arith);
+}

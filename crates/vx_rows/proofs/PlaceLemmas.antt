@@ -1,6 +1,6 @@
 -- Fields by their names, one after the other.
-use Rattle.std.proofs.Common.{◌≡◌, ℕ, ◌+◌, ◌<◌, List, [], ◌∷◌, length, get_or, drop, refl, ap, ◌∙◌, add-one, drop-cons}
-use Rattle.std.specs.Prelude.{String, string_bytes, map, Bool, if◌then◌else◌, Option, Some, None}
+use Rattle.std.proofs.Common.{◌≡◌, ℕ, ◌+◌, ◌<◌, List, ◌∷◌, length, get_or, drop, refl, ap, ◌∙◌, add-one, drop-cons}
+use Rattle.std.specs.Prelude.{String, string_bytes, map, if◌then◌else◌, Some, None}
 use Rattle.std.specs.Str.{bytes_eq}
 use Rattle.std.specs.Global.{Global}
 use Rattle.vx_data.specs.declared.dtype.DType.{DType}

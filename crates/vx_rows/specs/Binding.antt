@@ -1,9 +1,9 @@
 -- What a predicate is of rows of a type, or why it cannot be looked at there: the first node that fails, operands first.
 use Rattle.std.specs.Prelude.{◌≡◌, ℕ, ◌+◌, ◌==◌, ◌&&◌, ◌||◌, nat_le, not, Bool, true, false, if◌then◌else◌, List, [], ◌∷◌, Option, Some, None, Result, Ok, Err}
 use Rattle.std.specs.Str.{bytes_eq}
-use Rattle.vx_base.specs.Checks.{◌>>=◌, ◌unless◌, ◌lacking◌}
+use Rattle.vx_base.specs.Checks.{◌>>=◌}
 use Rattle.vx_data.specs.declared.ptype.PType.{PType}
-use Rattle.vx_data.specs.Dtype.{Dtype, FieldList, bool, int, text, struct, no_fields, field, is_nullable}
+use Rattle.vx_data.specs.Dtype.{Dtype, FieldList, bool, int, text, struct, no_fields, field}
 use Rattle.vx_data.specs.Scalar.{Value, flag, number, words}
 use Rattle.vx_rows.specs.Columns.{is_signed}
 use Rattle.vx_rows.specs.Written.{value_bits, is_within}

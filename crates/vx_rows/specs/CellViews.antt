@@ -1,6 +1,4 @@
 -- Values of rows in the code, as plain data.
-use Rattle.std.specs.Prelude.{ℕ, Bool, true, List, if◌then◌else◌, slice_index_or, Option, Some, None}
-use Rattle.std.specs.Option.{option_map}
 use Rattle.vx_data.specs.Scalar.{flag, number, words}
 use Rattle.vx_rows.specs.declared.cell.Cell.{Cell}
 use Rattle.vx_rows.specs.declared.cell.Cell.TheVariants as variant

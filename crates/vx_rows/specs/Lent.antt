@@ -1,5 +1,5 @@
 -- What is lent out, as plain data.
-use Rattle.std.specs.Prelude.{ℕ, Option, Some, None}
+use Rattle.std.specs.Prelude.{ℕ, Option}
 use Rattle.std.specs.Option.{option_map}
 use Rattle.std.specs.Borrow.{Bor}
 use Rattle.vx_data.specs.declared.dtype.DType.{DType}

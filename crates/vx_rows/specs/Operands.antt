@@ -1,12 +1,11 @@
 -- The operands of predicates at each row of a column.
 use Rattle.std.specs.Prelude.{◌≡◌, ℕ, ◌<◌, ℤ, Bool, true, not, List, slice_index_or, Option, Some, None, Result}
 use Rattle.vx_data.specs.Dtype.{Dtype}
-use Rattle.vx_data.specs.Scalar.{flag}
 use Rattle.vx_rows.specs.Rows.{Rows, rows_len, column_view}
-use Rattle.vx_rows.specs.RowValues.{Cell, value, Row, cell, bool_cell, int_cell, if_there, row_in}
+use Rattle.vx_rows.specs.RowValues.{Cell, Row, cell, bool_cell, int_cell, if_there, row_in}
 use Rattle.vx_rows.specs.CellViews.{cell_view}
 use Rattle.vx_rows.specs.Predicates.{Pred}
-use Rattle.vx_rows.specs.Truth.{to_truth, kleene_and, kleene_or, kleene_not, is_null, is_true, compared, summed, row_at, value_at}
+use Rattle.vx_rows.specs.Truth.{to_truth, kleene_and, kleene_or, kleene_not, is_null, is_true, compared, summed, value_at}
 use Rattle.vx_rows.specs.declared.kind.Kind.{Kind}
 use Rattle.vx_rows.specs.declared.bind_error.BindError.{BindError}
 use Rattle.vx_rows.specs.declared.predicate.Comparison.{Comparison}

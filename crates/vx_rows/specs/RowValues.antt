@@ -1,5 +1,5 @@
 -- What predicates see of a row of a column.
-use Rattle.std.specs.Prelude.{ℕ, zero, suc, ℤ, Bool, true, false, if◌then◌else◌, List, slice_index_or, Option, Some, None}
+use Rattle.std.specs.Prelude.{ℕ, zero, suc, ℤ, Bool, true, if◌then◌else◌, List, slice_index_or, Option, Some, None}
 use Rattle.vx_data.specs.Scalar.{Value, flag, number, words}
 use Rattle.vx_rows.specs.Rows.{Rows, FieldRows, bools, ints, texts, structs, no_columns, column}
 

@@ -1,5 +1,5 @@
 -- What a predicate is at a row: true, false or null.
-use Rattle.std.specs.Prelude.{ℕ, ◌+◌, ℤ, Bool, true, false, not, if◌then◌else◌, List, [], ◌∷◌, Option, Some, None, Result, Ok, Err}
+use Rattle.std.specs.Prelude.{ℕ, ℤ, Bool, true, false, not, if◌then◌else◌, List, [], ◌∷◌, Option, Some, None, Result, Ok, Err}
 use Rattle.std.specs.Prelude.{◌+ℤ◌}
 use Rattle.std.specs.declared.cmp.Ordering.{Ordering}
 use Rattle.std.specs.Ordering.{nat_cmp, int_cmp, bool_cmp, is_eq, is_ne, is_lt, is_le, is_gt, is_ge}
@@ -9,7 +9,7 @@ use Rattle.vx_data.specs.Scalar.{Value, flag, number, words}
 use Rattle.vx_rows.specs.Written.{is_within}
 use Rattle.vx_rows.specs.Rows.{Rows, rows_len}
 use Rattle.vx_rows.specs.Span.{span}
-use Rattle.vx_rows.specs.RowValues.{Cell, null, value, a_struct, Row, flat, of_parts, cell, part_at, value_cell, bool_cell, int_cell, row_in}
+use Rattle.vx_rows.specs.RowValues.{Cell, null, value, a_struct, Row, flat, cell, part_at, value_cell, bool_cell, int_cell, row_in}
 use Rattle.vx_rows.specs.declared.kind.Kind.{Kind}
 use Rattle.vx_rows.specs.declared.kind.Kind.TheVariants.{Bool as Truth, Int, Text, Struct}
 use Rattle.vx_rows.specs.declared.bind_error.BindError.{BindError}

@@ -10,4 +10,4 @@ use Rattle.vx_rows.proofs.evaluating.satisfying.Goals as goal
 pub returns : goal.returns
 returns c =
     whole_rows (pred_view c.args.predicate.now) (dtype_view c.args.dtype.now) (column_view c.args.column.now) c.in_ok-whole.whole c.in_ok-true_rows.field-0.items
-      c.in_ok-whole.ensures (c.in_ok-true_rows.ensures ∙ ap (λ n. span (true_at c.in_ok-whole.whole) 0 n) c.len.ensures)
+    c.in_ok-whole.ensures (c.in_ok-true_rows.ensures ∙ ap (λ n. span (true_at c.in_ok-whole.whole) 0 n) c.len.ensures)
