@@ -1,6 +1,6 @@
 -- Where pruning is exact: one comparison of a field with a literal.
-use Rattle.std.proofs.Common.{◌≡◌, ℕ, Bool, true, false, List, [], ◌∷◌, refl, ap, sym, subst, ◌∙◌}
-use Rattle.std.specs.Prelude.{◌&&◌, ◌||◌, ◌↔◌, Option, Some, None}
+use Rattle.std.proofs.Common.{◌≡◌, ℕ, Bool, true, false, List, refl, ap, sym, ◌∙◌}
+use Rattle.std.specs.Prelude.{◌&&◌, ◌||◌, Some}
 use Rattle.std.specs.declared.cmp.Ordering.{Ordering}
 use Rattle.std.specs.declared.cmp.Ordering.TheVariants.{Less, Equal, Greater}
 use Rattle.std.specs.Ordering.{is_eq, is_ne, is_lt, is_le, is_gt, is_ge}
@@ -12,10 +12,10 @@ use Rattle.vx_rows.specs.declared.predicate.Comparison.{Comparison}
 use Rattle.vx_rows.specs.declared.predicate.Comparison.TheVariants.{Eq, Ne, Lt, Le, Gt, Ge}
 use Rattle.vx_rows.specs.RowValues.{value}
 use Rattle.vx_rows.specs.Predicates.{Pred, lit, root, path, cast, add, compare, both, either, negated, null_test, present_test}
-use Rattle.vx_rows.specs.Truth.{is_true, meets, compared_values, compared}
-use Rattle.vx_prune.specs.Never.{value_cmp, Known, known_field, known_path, known_value, known, ranked, never_by, never_compare, never}
-use Rattle.vx_prune.specs.Pruning.{AtMost, is_field, are_of_one_kind, HasBounds, ExactLaw}
-use Rattle.vx_prune.proofs.OrderLemmas.{value_total, gt_is_lt, le_reversed, at_most_itself, compared_by_order, Compares, compares, lt_not, gt_not, ge_below, eq_below, eq_above, at_most}
+use Rattle.vx_rows.specs.Truth.{is_true, meets, compared_values}
+use Rattle.vx_prune.specs.Never.{value_cmp, Known, known_path, known_value, known, never_compare, never}
+use Rattle.vx_prune.specs.Pruning.{AtMost, is_field, are_of_one_kind, ExactLaw}
+use Rattle.vx_prune.proofs.OrderLemmas.{value_total, gt_is_lt, le_reversed, at_most_itself, compared_by_order, Compares, compares, eq_below, eq_above, at_most}
 use Rattle.vx_prune.proofs.RowLemmas.{never_meets}
 
 known-field : (p : Pred) (d : Dtype) (ss : List Stats) (n : ℕ) → is_field p ≡ true → known p d ss n ≡ known_path p d ss n
@@ -58,7 +58,7 @@ sound op l h v w t a b m =
     let right : v ≡ c.b = cc in
     let order : meets op (value_cmp w v) ≡ true = ap (λ x. meets op (value_cmp x v)) left ∙ ap (λ x. meets op (value_cmp c.a x)) right ∙ c.order in
     never_meets op (record { low = Some l; high = Some h; always_null = false; never_null = false }) (known_value (Some v)) w v a b (at_most_itself v) (at_most_itself v)
-    (sym (tested-is op (record { low = Some l; high = Some h; always_null = false; never_null = false }) l h v refl refl refl) ∙ t) order
+    (tested-is op (record { low = Some l; high = Some h; always_null = false; never_null = false }) l h v refl refl refl ∙ t) order
 
 not-true : (b : Bool) → (b ≡ true → ⊥) → b ≡ false
 not-true true h = absurd (h refl)

@@ -1,15 +1,13 @@
 -- The order of values, and what bounds tell of a comparison.
-use Rattle.std.proofs.Common.{◌≡◌, ℕ, Bool, true, false, List, [], refl, ap, sym, ◌∙◌}
-use Rattle.std.specs.Prelude.{ℤ, ◌&&◌, ◌||◌, Option, Some, None}
+use Rattle.std.proofs.Common.{◌≡◌, true, false, refl, ap, sym, ◌∙◌}
+use Rattle.std.specs.Prelude.{Option, Some, None}
 use Rattle.std.specs.declared.cmp.Ordering.{Ordering}
 use Rattle.std.specs.declared.cmp.Ordering.TheVariants.{Less, Equal, Greater}
-use Rattle.std.specs.Ordering.{nat_cmp, int_cmp, ordering_then, ordering_reverse, is_eq, is_ne, is_lt, is_le, is_gt, is_ge}
+use Rattle.std.specs.Ordering.{int_cmp, ordering_then, ordering_reverse, is_eq, is_ne, is_lt, is_le, is_gt, is_ge}
 use Rattle.std.specs.Cmp.{IsTotalOrder}
-use Rattle.std.specs.Cmp.Lexicographic.{slice_cmp}
 use Rattle.std.proofs.lemmas.Cmp.{then_total, on_total, nat_cmp_total, int_cmp_total, nat_list_cmp_total, upto, tied_itself}
 use Rattle.vx_data.specs.Scalar.{Value, flag, number, words}
 use Rattle.vx_rows.specs.declared.predicate.Comparison.{Comparison}
-use Rattle.vx_rows.specs.declared.predicate.Comparison.TheVariants.{Eq, Ne, Lt, Le, Gt, Ge}
 use Rattle.vx_rows.specs.RowValues.{Cell, null, value, a_struct}
 use Rattle.vx_rows.specs.Truth.{is_true, meets, compared_values, compared}
 use Rattle.vx_prune.specs.Never.{rank, as_number, as_words, value_cmp, ranked}

@@ -1,7 +1,7 @@
 -- What statistics tell of one row.
-use Rattle.std.proofs.Common.{◌≡◌, ℕ, Bool, true, false, List, [], ◌∷◌, refl, ap, sym, ◌∙◌}
+use Rattle.std.proofs.Common.{◌≡◌, ℕ, Bool, true, false, List, refl, ap, sym, ◌∙◌}
 use Rattle.std.specs.Prelude.{not, ◌&&◌, ◌||◌, Option, Some, None}
-use Rattle.std.specs.Ordering.{is_eq, is_lt, is_gt, is_ge}
+use Rattle.std.specs.Ordering.{is_eq, is_lt, is_gt}
 use Rattle.vx_data.specs.Dtype.{Dtype}
 use Rattle.vx_data.specs.Scalar.{Value, flag, number, words}
 use Rattle.vx_data.specs.Stats.{Stats}
@@ -11,7 +11,6 @@ use Rattle.vx_rows.specs.RowValues.{Cell, null, value, a_struct, Row, value_cell
 use Rattle.vx_rows.specs.Predicates.{Pred, lit, root, path, cast, add, compare, both, either, negated, null_test, present_test}
 use Rattle.vx_rows.specs.Truth.{to_truth, kleene_and, kleene_or, is_null, is_true, meets, compared, value_at, satisfies}
 use Rattle.vx_prune.specs.Never.{value_cmp, Known, unknown, known_field, known_path, known_value, known, ranked, never_by, never_compare, is_false, never_true, never}
-use Rattle.vx_prune.specs.Pruning.{AtMost}
 use Rattle.vx_prune.proofs.OrderLemmas.{IsLow, IsHigh, at_most_itself, Compares, compares, gt_turned, ge_turned, lt_never, le_never, eq_never, ne_never, eq_below, eq_above}
 
 -- what is known of an operand is true of it at a row
@@ -162,11 +161,15 @@ row_sound d ss n r f (compare op p q) h s =
     compare_sound op (known p d ss n) (known q d ss n) (value_at p d r) (value_at q d r) (fits-known d ss n r f p) (fits-known d ss n r f q) h
     (sym (truth-of (compared op (value_at p d r) (value_at q d r))) ∙ s)
 row_sound d ss n r f (both p q) h s =
-    let t : is_true (kleene_and (to_truth (value_at p d r)) (to_truth (value_at q d r))) ≡ true = sym (truth-of (kleene_and (to_truth (value_at p d r)) (to_truth (value_at q d r)))) ∙ s in
-    one-of (never p d ss n) (never q d ss n) h (λ e. row_sound d ss n r f p e (and-first _ _ t)) (λ e. row_sound d ss n r f q e (and-second _ _ t))
+    let x = to_truth (value_at p d r) in
+    let y = to_truth (value_at q d r) in
+    let t : is_true (kleene_and x y) ≡ true = sym (truth-of (kleene_and x y)) ∙ s in
+    one-of (never p d ss n) (never q d ss n) h (λ e. row_sound d ss n r f p e (and-first x y t)) (λ e. row_sound d ss n r f q e (and-second x y t))
 row_sound d ss n r f (either p q) h s =
-    let t : is_true (kleene_or (to_truth (value_at p d r)) (to_truth (value_at q d r))) ≡ true = sym (truth-of (kleene_or (to_truth (value_at p d r)) (to_truth (value_at q d r)))) ∙ s in
-    or-one (to_truth (value_at p d r)) (to_truth (value_at q d r)) t (row_sound d ss n r f p (first-of _ _ h)) (row_sound d ss n r f q (second-of _ _ h))
+    let x = to_truth (value_at p d r) in
+    let y = to_truth (value_at q d r) in
+    let t : is_true (kleene_or x y) ≡ true = sym (truth-of (kleene_or x y)) ∙ s in
+    or-one x y t (row_sound d ss n r f p (first-of (never p d ss n) (never q d ss n) h)) (row_sound d ss n r f q (second-of (never p d ss n) (never q d ss n) h))
 row_sound d ss n r f (negated p) h s = cc
 row_sound d ss n r f (null_test p) h s = let e : is_null (value_at p d r) ≡ false = (fits-path d ss n r f p).never h in cc
 row_sound d ss n r f (present_test p) h s =

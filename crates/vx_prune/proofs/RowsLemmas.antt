@@ -1,7 +1,7 @@
 -- What statistics that are true of rows tell of each row, and the law of pruning.
-use Rattle.std.proofs.Common.{◌≡◌, ℕ, zero, suc, ◌+◌, ◌<◌, ◌≤◌, Bool, true, false, List, [], ◌∷◌, length, get_or, refl, ap, sym, subst, ◌∙◌, arith}
-use Rattle.std.specs.Prelude.{ℤ, pos, map, cond, slice_index_or, Option, Some, None}
-use Rattle.std.specs.List.{All, count_by}
+use Rattle.std.proofs.Common.{◌≡◌, ℕ, zero, suc, ◌+◌, ◌<◌, Bool, true, false, List, [], ◌∷◌, length, get_or, refl, ap, sym, subst, ◌∙◌, arith}
+use Rattle.std.specs.Prelude.{◌<ℤ◌, pos, cond, slice_index_or, Option, Some, None}
+use Rattle.std.specs.List.{count_by}
 use Rattle.std.specs.declared.cmp.Ordering.{Ordering}
 use Rattle.std.specs.declared.cmp.Ordering.TheVariants.{Less, Equal, Greater}
 use Rattle.std.specs.Ordering.{int_cmp, is_eq, MatchOrdering}
@@ -12,15 +12,15 @@ use Rattle.vx_data.specs.declared.stats_set.Precision.{Precision}
 use Rattle.vx_data.specs.declared.stats_set.Precision.TheVariants.{Exact, Inexact}
 use Rattle.vx_data.specs.Dtype.{Dtype}
 use Rattle.vx_data.specs.Scalar.{Value, flag, number, words}
-use Rattle.vx_data.specs.Stats.{Stats, no_stats, stat_in}
+use Rattle.vx_data.specs.Stats.{Stats, no_stats}
 use Rattle.vx_rows.specs.RowValues.{Cell, null, value, a_struct, Row, flat, cell, part_at}
-use Rattle.vx_rows.specs.Predicates.{Pred, path}
+use Rattle.vx_rows.specs.Predicates.{path}
 use Rattle.vx_rows.specs.Binding.{place, with_place}
 use Rattle.vx_rows.specs.Truth.{is_null, row_at, value_at, satisfies}
-use Rattle.vx_prune.specs.Never.{exact, is_count, Known, known_field, never}
+use Rattle.vx_prune.specs.Never.{exact, is_count, known_field}
 use Rattle.vx_prune.specs.Pruning.{NotBelow, NotAbove, IsTrueMin, IsTrueMax, IsTrueCount, IsTrueOf, field_cells, AreTrueOf, PruningLaw}
 use Rattle.vx_prune.proofs.OrderLemmas.{IsLow, IsHigh}
-use Rattle.vx_prune.proofs.RowLemmas.{Fits, FitsRow, fits_unknown, row_sound}
+use Rattle.vx_prune.proofs.RowLemmas.{Fits, fits_unknown, row_sound}
 
 -- ---- bounds
 
@@ -58,21 +58,23 @@ count-step c cells = sum_by-cons (λ x. cond (is_null x) 1 0) c cells
 
 all-null : (cells : List Cell) (k : ℕ) → count_by is_null cells ≡ length cells → k < length cells → is_null (get_or cells k null) ≡ true
 all-null [] k h less = absurd (omega arith)
-all-null (c ∷ cells) k h less = by (is_null c) k refl (sym (count-step c cells) ∙ h) less
+all-null (c ∷ cells) k h less = by (all-null cells) (is_null c) k refl (sym (count-step c cells) ∙ h) less
   where
-    by : (b : Bool) (k : ℕ) → is_null c ≡ b → cond b 1 0 + count_by is_null cells ≡ suc (length cells) → k < suc (length cells) → is_null (get_or (c ∷ cells) k null) ≡ true
-    by true zero is e l = is
-    by true (suc k) is e l = all-null cells k (omega (arith, e)) (omega arith)
-    by false k is e l = absurd (omega (arith, e, count_by-le-length is_null cells))
+    by : ((k : ℕ) → count_by is_null cells ≡ length cells → k < length cells → is_null (get_or cells k null) ≡ true)
+        → (b : Bool) (k : ℕ) → is_null c ≡ b → cond b 1 0 + count_by is_null cells ≡ suc (length cells) → k < suc (length cells) → is_null (get_or (c ∷ cells) k null) ≡ true
+    by rest true zero is e l = is
+    by rest true (suc k) is e l = rest k (omega (arith, e)) (omega arith)
+    by rest false k is e l = absurd (omega (arith, e, count_by-le-length is_null cells))
 
 none-null : (cells : List Cell) (k : ℕ) → count_by is_null cells ≡ 0 → k < length cells → is_null (get_or cells k null) ≡ false
 none-null [] k h less = absurd (omega arith)
-none-null (c ∷ cells) k h less = by (is_null c) k refl (sym (count-step c cells) ∙ h) less
+none-null (c ∷ cells) k h less = by (none-null cells) (is_null c) k refl (sym (count-step c cells) ∙ h) less
   where
-    by : (b : Bool) (k : ℕ) → is_null c ≡ b → cond b 1 0 + count_by is_null cells ≡ 0 → k < suc (length cells) → is_null (get_or (c ∷ cells) k null) ≡ false
-    by false zero is e l = is
-    by false (suc k) is e l = none-null cells k (omega (arith, e)) (omega arith)
-    by true k is e l = absurd (omega (arith, e))
+    by : ((k : ℕ) → count_by is_null cells ≡ 0 → k < length cells → is_null (get_or cells k null) ≡ false)
+        → (b : Bool) (k : ℕ) → is_null c ≡ b → cond b 1 0 + count_by is_null cells ≡ 0 → k < suc (length cells) → is_null (get_or (c ∷ cells) k null) ≡ false
+    by rest false zero is e l = is
+    by rest false (suc k) is e l = rest k (omega (arith, e)) (omega arith)
+    by rest true k is e l = absurd (omega (arith, e))
 
 null-cell : (c : Cell) → is_null c ≡ true → c ≡ null
 null-cell null h = refl

@@ -1,5 +1,5 @@
 -- The statistics of a file beside its type, and what is known of operands, as plain data.
-use Rattle.std.specs.Prelude.{List, Option, Bool}
+use Rattle.std.specs.Prelude.{List, Option}
 use Rattle.std.specs.Option.{option_map}
 use Rattle.std.specs.Borrow.{Bor}
 use Rattle.vx_data.specs.declared.scalar.Scalar.{Scalar}

@@ -29,7 +29,7 @@ fn is_true(value: &Option<Scalar>) -> bool
 
 /// Whether statistics tell that no row of so many satisfies a predicate.
 #[cycle(pruning)]
-fn never(binder: &FileStatsBinder, predicate: &Predicate, rows: u64) -> bool
+fn never<'a>(binder: &FileStatsBinder<'a>, predicate: &'a Predicate, rows: u64) -> bool
     ensures { result ≡ never_holds (pred_view predicate.now) (dtype_of binder.now) (sets_of binder.now) rows }
 {
     match predicate {
@@ -49,12 +49,11 @@ fn never(binder: &FileStatsBinder, predicate: &Predicate, rows: u64) -> bool
 /// Whether no row of a file of this type and so many rows can satisfy a predicate, as far as the exact ones of
 /// its statistics tell. Where the answer is true, the statistics are true of the rows and the row count is
 /// right, no row satisfies the predicate.
-#[tactic(auto, using(crate::proofs::RowsLemmas::pruned_rows))]
-pub fn can_prune_file_stats(
-    bound: &Bound,
+pub fn can_prune_file_stats<'a>(
+    bound: &'a Bound,
     row_count: u64,
-    file_stats: &FileStatistics,
-    dtype: &DType,
+    file_stats: &'a FileStatistics,
+    dtype: &'a DType,
 ) -> bool
     ensures value { result ≡ never_holds (bound_view bound.now).0 (dtype_view dtype.now) file_stats.now.sets row_count }
     ensures sound { result ≡ true → Prunes (bound_view bound.now).0 (dtype_view dtype.now) file_stats.now.sets row_count }
