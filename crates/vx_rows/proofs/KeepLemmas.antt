@@ -1,10 +1,12 @@
 -- Rows that are kept while others are put behind them.
-use Rattle.std.proofs.Common.{◌≡◌, ℕ, zero, suc, ℤ, ◌+◌, ◌-◌, ◌<◌, ◌≤◌, Bool, true, false, List, [], ◌∷◌, ◌++◌, length, get_or, set, take, drop, Option, refl, ap, sym, ◌∙◌, subst, arith}
+use Rattle.std.proofs.Common.{◌≡◌, ℕ, zero, suc, ℤ, ◌+◌, ◌-◌, ◌<◌, ◌≤◌, Bool, true, false, List, [], ◌∷◌, ◌++◌, length, get_or, set, take, drop, Option, refl, ap, sym, ◌∙◌, subst, arith, inl, inr}
 use Rattle.std.specs.Prelude.{slice_range, ◌||◌}
 use Rattle.std.proofs.Math.Seq.{take-append_seam}
+use Rattle.std.proofs.lemmas.List.{take_all}
+use Rattle.std.proofs.lemmas.Bool.{cases_lt}
 use Rattle.vx_rows.specs.declared.builder.Builder.{Builder}
 use Rattle.vx_rows.specs.Columns.{Bools, Ints, Texts, Structs}
-use Rattle.vx_rows.specs.Rows.{Rows, FieldRows, bools, ints, texts, structs, HasRows, AllHaveRows, IsColumn, AreColumns, rows_len, dtype_of}
+use Rattle.vx_rows.specs.Rows.{Rows, FieldRows, bools, ints, texts, structs, no_columns, column, HasRows, AllHaveRows, IsColumn, AreColumns, rows_len, dtype_of}
 use Rattle.vx_data.specs.Dtype.{Dtype, FieldList, bool, int, text, struct, no_fields, field}
 use Rattle.vx_rows.specs.ReadRows.{no_rows, no_rows_each}
 use Rattle.vx_rows.specs.Builders.{builder_view, pairs_view}
@@ -98,3 +100,27 @@ part_even c p from to o l h e = (to - from, subst (IsColumn (to - from)) (sym e)
 
 pub part_typed : (c p d : Rows) (from to : ℕ) → p ≡ part from to c → dtype_of c ≡ dtype_of d → dtype_of p ≡ dtype_of d
 part_typed c p d from to e t = ap dtype_of e ∙ part_type from to c ∙ t
+
+-- ---- the first rows
+
+range-all : {A : Type 0} (xs : List A) (k : ℕ) → length xs ≤ k → slice_range xs 0 k ≡ xs
+range-all xs k l = take_all (k - 0) xs (omega (arith, l))
+
+mutual
+  -- all rows, where there are no more
+  part-all : (n k : ℕ) (c : Rows) → n ≤ k → HasRows n c → part 0 k c ≡ c
+  part-all n k (bools c) l e = ap (λ rows. bools (record { nullable = c.nullable; rows = rows })) (range-all c.rows k (omega (arith, l, e)))
+  part-all n k (ints c) l e = ap (λ rows. ints (record { ptype = c.ptype; nullable = c.nullable; rows = rows })) (range-all c.rows k (omega (arith, l, e)))
+  part-all n k (texts c) l e = ap (λ rows. texts (record { nullable = c.nullable; rows = rows })) (range-all c.rows k (omega (arith, l, e)))
+  part-all n k (structs c cs) l e =
+      ap (λ present. structs (record { nullable = c.nullable; present = present }) (field_parts 0 k cs)) (range-all c.present k (omega (arith, l, e.0))) ∙ ap (structs c) (parts-all n k cs l e.1)
+
+  parts-all : (n k : ℕ) (cs : FieldRows) → n ≤ k → AllHaveRows n cs → field_parts 0 k cs ≡ cs
+  parts-all n k no_columns l e = refl
+  parts-all n k (column name c cs) l e = ap (λ x. column name x (field_parts 0 k cs)) (part-all n k c l e.0) ∙ ap (column name c) (parts-all n k cs l e.1)
+
+pub front_even : (c e : Rows) (k : ℕ) → IsColumn (rows_len c) c → e ≡ part 0 k c → IsColumn (rows_len e) e
+front_even c e k h same = elim (cases_lt k (rows_len c)) [
+  | inl less ↦ subst (λ (x : Rows). IsColumn (rows_len x) x) (sym same) (even-is (k - 0) (part 0 k c) (part_is_column (rows_len c) 0 k c (omega arith) (omega (arith, less)) h))
+  | inr more ↦ subst (λ (x : Rows). IsColumn (rows_len x) x) (sym (same ∙ part-all (rows_len c) k c more (column_rows (rows_len c) c h))) h
+]

@@ -37,3 +37,6 @@ pub mod FillLemmas
 pub mod SizeLemmas
 pub mod CutBackLemmas
 pub mod KeepLemmas
+pub mod PlaceLemmas
+pub mod FieldRowLemmas
+pub mod EvaluatedLemmas

@@ -16,3 +16,13 @@ pub mod Parts
 pub mod RowStats
 pub mod LayoutRows
 pub mod RowsCode
+pub mod RowValues
+pub mod Predicates
+pub mod Binding
+pub mod Truth
+pub mod CellViews
+pub mod Lent
+pub mod Bounds
+pub mod Operands
+pub mod Fields
+pub mod LayoutReaders

@@ -284,9 +284,18 @@ impl GrowingColumn {
         append_whole(alloc, &mut self.builder, &more)
     }
 
+    /// Keeps so many rows, the first ones.
+    #[tactic(auto, using(crate::proofs::KeepLemmas::front_even))]
+    pub fn truncate(&mut self, rows: usize)
+        ensures { self.new ≡ part 0 rows self.old }
+    {
+        truncate(&mut self.builder, rows);
+    }
+
     /// The number of rows.
     pub fn len(&self) -> usize
-        ensures { result ≡ rows_len self.now }
+        ensures value { result ≡ rows_len self.now }
+        ensures sound { IsColumn (rows_len self.now) self.now }
     {
         len_of(&self.builder)
     }

@@ -3,25 +3,37 @@
 
 mod array_error;
 mod array_kind;
+mod bind_error;
+mod binding;
 mod bits;
 mod bool_builder;
 mod bool_column;
+mod bound;
 mod builder;
+mod cell;
 mod cells;
 mod column;
 mod decoding;
 mod encode_error;
 mod encoding;
+mod evaluating;
 mod evenness;
 mod extents;
+mod fields;
 mod flags;
 mod growing;
 mod int_builder;
 mod int_column;
+mod kind;
+mod layout_reader;
 mod making;
 mod mask;
+mod nodes;
+mod operand;
 mod parts;
+mod places;
 mod plain_size;
+mod predicate;
 mod presence;
 mod printing;
 mod reading;
@@ -38,15 +50,20 @@ mod typing;
 mod value_reading;
 
 pub use array_error::ArrayError;
+pub use bind_error::BindError;
 pub use bits::Bits;
 pub use bool_column::BoolColumn;
+pub use bound::Bound;
 pub use column::{Column, Columns};
 pub use decoding::decode_array;
 pub use encode_error::EncodeError;
 pub use encoding::encode_array;
 pub use growing::GrowingColumn;
 pub use int_column::IntColumn;
+pub use layout_reader::LayoutReader;
 pub use mask::Mask;
+pub use places::place_of_field;
+pub use predicate::{Comparison, Predicate};
 pub use printing::{push_rows, row_text};
 pub use row_reading::read_rows;
 pub use rows_back::printed_rows_are_read;
@@ -58,5 +75,7 @@ pub use text_column::TextColumn;
 
 #[cfg(test)]
 mod part_tests;
+#[cfg(test)]
+mod predicate_tests;
 #[cfg(test)]
 mod tests;

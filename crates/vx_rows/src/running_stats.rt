@@ -119,6 +119,20 @@ impl RunningStats {
         Ok(())
     }
 
+    /// Adds what other columns tell, which come behind those so far and have their type.
+    pub fn merge(&mut self, other: RunningStats)
+        requires few { self.old.rows + other.rows < 2 ^ 64 }
+        // What is seen then is what all columns tell, one behind the other.
+        ensures seen { (c d : Rows) (p q : List Bool) → length p ≡ rows_len c → length q ≡ rows_len d → dtype_of c ≡ dtype_of d
+            → self.old.seen ≡ summary p c → other.seen ≡ summary q d → self.new.seen ≡ summary (p ++ q) (appended c d) }
+        ensures rows { (self.new.wanted ≡ self.old.wanted) × (self.new.rows ≡ self.old.rows + other.rows) }
+    {
+        self.min = lesser(self.min.take(), other.min);
+        self.max = greater(self.max.take(), other.max);
+        self.nulls += other.nulls;
+        self.count += other.count;
+    }
+
     /// The statistics that are wanted, all of them exact.
     pub fn finish(self) -> StatsSet
         ensures { result ≡ stats_of self.wanted self.seen }

@@ -1,0 +1,4 @@
+pub mod OrderLemmas
+pub mod RowLemmas
+pub mod RowsLemmas
+pub mod ExactLemmas

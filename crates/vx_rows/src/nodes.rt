@@ -1,0 +1,184 @@
+//! The nodes of predicates, each over all rows.
+ghost use Rattle.std.specs.Prelude.{◌≡◌, IfOk};
+ghost use Rattle.vx_rows.specs.Span.{span};
+ghost use Rattle.vx_rows.specs.Truth.{kleene_and, kleene_or, kleene_not, is_true as holds};
+ghost use Rattle.vx_rows.specs.Operands.{compared_at, summed_at, and_at, or_at, not_at, null_at, present_at, true_at};
+
+use crate::cell::{add, compare, is_null, truth_of};
+use crate::kind::Kind;
+use crate::operand::Operand;
+use crate::{BindError, Comparison};
+use std::alloc::{AllocError, Global};
+
+/// A comparison at each of so many rows.
+#[tactic(auto, using(crate::proofs::SpanLemmas::span_push))]
+pub fn compare_rows(
+    alloc: Global,
+    op: Comparison,
+    a: &Operand,
+    b: &Operand,
+    count: usize,
+) -> Result<Vec<Option<bool>>, AllocError>
+    ensures { IfOk result (λ truths. truths.items ≡ span (compared_at op a.now b.now) 0 count) }
+{
+    let mut truths = Vec::with_capacity(alloc, count)?;
+    for row in 0..count {
+        truths.push(compare(op, a.at(row), b.at(row)))?;
+    }
+    Ok(truths)
+}
+
+/// A sum at each of so many rows.
+#[tactic(auto, using(crate::proofs::SpanLemmas::span_push))]
+pub fn add_rows(
+    alloc: Global,
+    kind: Result<Kind, BindError>,
+    a: &Operand,
+    b: &Operand,
+    count: usize,
+) -> Result<Vec<Option<i128>>, AllocError>
+    ensures { IfOk result (λ numbers. numbers.items ≡ span (summed_at kind a.now b.now) 0 count) }
+{
+    let mut numbers = Vec::with_capacity(alloc, count)?;
+    for row in 0..count {
+        numbers.push(add(kind, a.at(row), b.at(row)))?;
+    }
+    Ok(numbers)
+}
+
+/// Kleene's conjunction.
+#[inline(always)]
+fn both(a: Option<bool>, b: Option<bool>) -> Option<bool>
+    ensures { result ≡ kleene_and a b }
+{
+    match a {
+        Some(false) => Some(false),
+        Some(true) => b,
+        None => match b {
+            Some(false) => Some(false),
+            Some(true) | None => None,
+        },
+    }
+}
+
+/// Kleene's disjunction.
+#[inline(always)]
+fn either(a: Option<bool>, b: Option<bool>) -> Option<bool>
+    ensures { result ≡ kleene_or a b }
+{
+    match a {
+        Some(true) => Some(true),
+        Some(false) => b,
+        None => match b {
+            Some(true) => Some(true),
+            Some(false) | None => None,
+        },
+    }
+}
+
+#[inline(always)]
+fn opposite(a: Option<bool>) -> Option<bool>
+    ensures { result ≡ kleene_not a }
+{
+    match a {
+        None => None,
+        Some(b) => Some(!b),
+    }
+}
+
+/// Whether a truth value is true, and neither false nor null.
+#[inline(always)]
+fn is_true(a: Option<bool>) -> bool
+    ensures { result ≡ holds a }
+{
+    match a {
+        None => false,
+        Some(b) => b,
+    }
+}
+
+/// A conjunction at each of so many rows.
+#[tactic(auto, using(crate::proofs::SpanLemmas::span_push))]
+pub fn and_rows(
+    alloc: Global,
+    a: &Operand,
+    b: &Operand,
+    count: usize,
+) -> Result<Vec<Option<bool>>, AllocError>
+    ensures { IfOk result (λ truths. truths.items ≡ span (and_at a.now b.now) 0 count) }
+{
+    let mut truths = Vec::with_capacity(alloc, count)?;
+    for row in 0..count {
+        truths.push(both(truth_of(a.at(row)), truth_of(b.at(row))))?;
+    }
+    Ok(truths)
+}
+
+/// A disjunction at each of so many rows.
+#[tactic(auto, using(crate::proofs::SpanLemmas::span_push))]
+pub fn or_rows(
+    alloc: Global,
+    a: &Operand,
+    b: &Operand,
+    count: usize,
+) -> Result<Vec<Option<bool>>, AllocError>
+    ensures { IfOk result (λ truths. truths.items ≡ span (or_at a.now b.now) 0 count) }
+{
+    let mut truths = Vec::with_capacity(alloc, count)?;
+    for row in 0..count {
+        truths.push(either(truth_of(a.at(row)), truth_of(b.at(row))))?;
+    }
+    Ok(truths)
+}
+
+/// The opposite at each of so many rows.
+#[tactic(auto, using(crate::proofs::SpanLemmas::span_push))]
+pub fn not_rows(alloc: Global, a: &Operand, count: usize) -> Result<Vec<Option<bool>>, AllocError>
+    ensures { IfOk result (λ truths. truths.items ≡ span (not_at a.now) 0 count) }
+{
+    let mut truths = Vec::with_capacity(alloc, count)?;
+    for row in 0..count {
+        truths.push(opposite(truth_of(a.at(row))))?;
+    }
+    Ok(truths)
+}
+
+/// Whether each of so many rows is null.
+#[tactic(auto, using(crate::proofs::SpanLemmas::span_push))]
+pub fn null_rows(alloc: Global, a: &Operand, count: usize) -> Result<Vec<Option<bool>>, AllocError>
+    ensures { IfOk result (λ truths. truths.items ≡ span (null_at a.now) 0 count) }
+{
+    let mut truths = Vec::with_capacity(alloc, count)?;
+    for row in 0..count {
+        truths.push(Some(is_null(a.at(row))))?;
+    }
+    Ok(truths)
+}
+
+/// Whether each of so many rows is not null.
+#[tactic(auto, using(crate::proofs::SpanLemmas::span_push))]
+pub fn present_rows(
+    alloc: Global,
+    a: &Operand,
+    count: usize,
+) -> Result<Vec<Option<bool>>, AllocError>
+    ensures { IfOk result (λ truths. truths.items ≡ span (present_at a.now) 0 count) }
+{
+    let mut truths = Vec::with_capacity(alloc, count)?;
+    for row in 0..count {
+        truths.push(Some(!is_null(a.at(row))))?;
+    }
+    Ok(truths)
+}
+
+/// Whether each of so many rows is true.
+#[tactic(auto, using(crate::proofs::SpanLemmas::span_push))]
+pub fn true_rows(alloc: Global, a: &Operand, count: usize) -> Result<Vec<bool>, AllocError>
+    ensures { IfOk result (λ bits. bits.items ≡ span (true_at a.now) 0 count) }
+{
+    let mut bits = Vec::with_capacity(alloc, count)?;
+    for row in 0..count {
+        bits.push(is_true(truth_of(a.at(row))))?;
+    }
+    Ok(bits)
+}
