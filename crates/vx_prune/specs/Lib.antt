@@ -1,3 +1,4 @@
 pub mod Never
 pub mod Pruning
 pub mod Binders
+pub mod Readers

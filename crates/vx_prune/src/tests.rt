@@ -1,10 +1,11 @@
 //! Worked rows of pruning, with ample memory.
-use crate::{FileStatsBinder, can_prune_file_stats};
+use crate::{FileStatsBinder, FileStatsLayoutReader, can_prune_file_stats};
 use std::alloc::Global;
 use std::test::Fail;
-use vx_data::{DType, FieldPath, Precision, Scalar, Stat, StatsSet};
+use vx_base::SegmentId;
+use vx_data::{DType, FieldPath, Layout, Precision, Scalar, Stat, StatsSet};
 use vx_footer::FileStatistics;
-use vx_rows::{Comparison, Predicate};
+use vx_rows::{Comparison, LayoutReader, Mask, Predicate};
 
 fn dtype_of(alloc: Global, text: &str) -> Result<DType, Fail> {
     match DType::from_text(alloc, text) {
@@ -239,5 +240,32 @@ fn exact_statistics_are_lent(rt: HostRuntime) -> Result<(), Fail> {
     assert!(rt; found);
     assert!(rt; binder.stat(&path(alloc, "col")?, Stat::NullCount).is_none());
     assert!(rt; binder.stat(&path(alloc, "other")?, Stat::Max).is_none());
+    Ok(())
+}
+
+// What a reader of two rows with these statistics leaves of a mask.
+fn evaluated(alloc: Global, predicate: Predicate, mask: Mask) -> Result<Mask, Fail> {
+    let whole = dtype_of(alloc, "{col:i32}")?;
+    let layout = Layout::flat(alloc, dtype_of(alloc, "{col:i32}")?, 2, SegmentId(0))?;
+    let stats = FileStatistics::new(
+        vec![in alloc; hundred()]?,
+        vec![in alloc; dtype_of(alloc, "i32")?]?,
+    );
+    let reader = FileStatsLayoutReader::new(LayoutReader::new(layout), stats);
+    match predicate.bind(alloc, &whole) {
+        Ok(bound) => Ok(reader.pruning_evaluation(alloc, 0..2, &bound, mask)?),
+        Err(_) => Err(Fail::from("not bound")),
+    }
+}
+
+#[test]
+fn a_file_that_is_skipped_has_no_rows(rt: HostRuntime) -> Result<(), Fail> {
+    let alloc = rt.alloc();
+    let p = compare(alloc, Comparison::Gt, col(alloc)?, int(alloc, "i32", 200)?)?;
+    let mask = evaluated(alloc, p, Mask::new(vec![in alloc; true, true]?))?;
+    assert!(rt; mask.len() == 2 && !mask.get(0) && !mask.get(1));
+    let p = compare(alloc, Comparison::Gt, col(alloc)?, int(alloc, "i32", 50)?)?;
+    let mask = evaluated(alloc, p, Mask::new(vec![in alloc; true, false]?))?;
+    assert!(rt; mask.len() == 2 && mask.get(0) && !mask.get(1));
     Ok(())
 }
