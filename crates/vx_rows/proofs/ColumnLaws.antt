@@ -356,3 +356,5 @@ mutual
   fronts_again n (column name c cs) no_columns e = all-kept-fields (column name c cs) n e
   fronts_again n (column name c cs) (column other d ds) e =
       ap (λ (x : Rows). column name x (field_parts 0 n (fields_appended cs ds))) (front_again n c d e.0) ∙ ap (column name c) (fronts_again n cs ds e.1)
+
+pub ruleset part_laws = (parts_again, front_again, part_of_part, part_type, appended_type, part_is_column, appended_is_column)

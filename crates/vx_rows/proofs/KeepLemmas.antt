@@ -6,13 +6,13 @@ use Rattle.std.proofs.lemmas.List.{take_all}
 use Rattle.std.proofs.lemmas.Bool.{cases_lt}
 use Rattle.vx_rows.specs.declared.builder.Builder.{Builder}
 use Rattle.vx_rows.specs.Columns.{Bools, Ints, Texts, Structs}
-use Rattle.vx_rows.specs.Rows.{Rows, FieldRows, bools, ints, texts, structs, no_columns, column, HasRows, AllHaveRows, IsColumn, AreColumns, rows_len, dtype_of}
+use Rattle.vx_rows.specs.Rows.{Rows, FieldRows, bools, ints, texts, structs, no_columns, column, HasRows, AllHaveRows, IsColumn, AreColumns, rows_len, dtype_of, types_of}
 use Rattle.vx_data.specs.Dtype.{Dtype, FieldList, bool, int, text, struct, no_fields, field}
 use Rattle.vx_rows.specs.ReadRows.{no_rows, no_rows_each}
 use Rattle.vx_rows.specs.Builders.{builder_view, pairs_view}
 use Rattle.vx_rows.specs.Parts.{part, field_parts, appended, Keeps, FieldsKeep}
 use Rattle.vx_rows.proofs.BuildingLemmas.{Field}
-use Rattle.vx_rows.proofs.ColumnLaws.{all-kept, all-kept-fields, front-kept, column_rows, rows_are, appended_is_column, part_is_column, part_type}
+use Rattle.vx_rows.proofs.ColumnLaws.{all-kept, all-kept-fields, front-kept, column_rows, rows_are, appended_is_column, part_is_column, part_type, appended_type}
 use Rattle.vx_rows.proofs.JoinLemmas.{bools_upto, texts_upto}
 use Rattle.vx_rows.proofs.FieldGrowLemmas.{kept_set, rows_at}
 
@@ -124,3 +124,20 @@ front_even c e k h same = elim (cases_lt k (rows_len c)) [
   | inl less ↦ subst (λ (x : Rows). IsColumn (rows_len x) x) (sym same) (even-is (k - 0) (part 0 k c) (part_is_column (rows_len c) 0 k c (omega arith) (omega (arith, less)) h))
   | inr more ↦ subst (λ (x : Rows). IsColumn (rows_len x) x) (sym (same ∙ part-all (rows_len c) k c more (column_rows (rows_len c) c h))) h
 ]
+
+mutual
+  none-type : (d : Dtype) → dtype_of (no_rows d) ≡ d
+  none-type (bool nullable) = refl
+  none-type (int p nullable) = refl
+  none-type (text nullable) = refl
+  none-type (struct fs nullable) = ap (λ gs. struct gs nullable) (none-types fs)
+
+  none-types : (fs : FieldList) → types_of (no_rows_each fs) ≡ fs
+  none-types no_fields = refl
+  none-types (field name d fs) = ap (λ t. field name t (types_of (no_rows_each fs))) (none-type d) ∙ ap (field name d) (none-types fs)
+
+pub new_type : (d : Dtype) (c : Rows) → c ≡ no_rows d → dtype_of c ≡ d
+new_type d c e = ap dtype_of e ∙ none-type d
+
+pub appended_same : (c d e : Rows) → e ≡ appended c d → dtype_of e ≡ dtype_of c
+appended_same c d e same = ap dtype_of same ∙ appended_type c d

@@ -138,13 +138,14 @@ fn truncate(builder: &mut Builder, rows: usize)
 }
 
 /// Adds the rows of a column. Only memory refuses, and then nothing changes.
-#[tactic(auto, using(crate::proofs::KeepLemmas::appended_even, crate::proofs::KeepLemmas::same_even, crate::proofs::KeepLemmas::cut_back))]
+#[tactic(auto, using(crate::proofs::KeepLemmas::appended_even, crate::proofs::KeepLemmas::appended_same, crate::proofs::KeepLemmas::same_even, crate::proofs::KeepLemmas::cut_back))]
 fn append_whole(alloc: Global, builder: &mut Builder, column: &Column) -> Result<(), AllocError>
     requires typed { dtype_of (column_view column.now) ≡ dtype_of (builder_view builder.old) }
     requires even { (n : ℕ) × IsColumn n (column_view column.now) }
     requires old { IsColumn (rows_len (builder_view builder.old)) (builder_view builder.old) }
     ensures ok { OnOk result (builder_view builder.new ≡ appended (builder_view builder.old) (column_view column.now)) }
     ensures err { OnErr result (builder_view builder.new ≡ builder_view builder.old) }
+    ensures same { dtype_of (builder_view builder.new) ≡ dtype_of (builder_view builder.old) }
     ensures even { IsColumn (rows_len (builder_view builder.new)) (builder_view builder.new) }
 {
     let before = len_of(builder);
@@ -255,9 +256,10 @@ impl Model for GrowingColumn {
 
 impl GrowingColumn {
     /// No rows of a type. Only memory refuses.
-    #[tactic(auto, using(crate::proofs::KeepLemmas::new_even))]
+    #[tactic(auto, using(crate::proofs::KeepLemmas::new_even, crate::proofs::KeepLemmas::new_type))]
     pub fn new(alloc: Global, dtype: &DType) -> Result<GrowingColumn, AllocError>
-        ensures { IfOk result (λ growing. growing ≡ no_rows (dtype_view dtype.now)) }
+        ensures value { IfOk result (λ growing. growing ≡ no_rows (dtype_view dtype.now)) }
+        ensures typed { IfOk result (λ growing. dtype_of growing ≡ dtype_view dtype.now) }
     {
         Ok(GrowingColumn {
             builder: begin(alloc, dtype)?,
@@ -279,6 +281,7 @@ impl GrowingColumn {
         requires inside { to ≤ rows_len (column_view column.now) }
         ensures ok { OnOk result (self.new ≡ appended self.old (part from to (column_view column.now))) }
         ensures err { OnErr result (self.new ≡ self.old) }
+        ensures same { dtype_of self.new ≡ dtype_of self.old }
     {
         let more = column.part(alloc, from, to)?;
         append_whole(alloc, &mut self.builder, &more)
