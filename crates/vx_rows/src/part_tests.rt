@@ -105,15 +105,24 @@ fn is_of(alloc: Global, column: &Column, dtype: &str) -> Result<bool, Fail> {
     Ok(column.dtype_is(&dtype))
 }
 
+// Whether a column of an integer and a text that may be null has this type.
+fn is_pair(alloc: Global, dtype: &str) -> Result<bool, Fail> {
+    let column = rows(alloc, "{a:u8,b:text?}", "(1,x)\n")?;
+    is_of(alloc, &column, dtype)
+}
+
 #[test]
 fn types_are_compared(rt: HostRuntime) -> Result<(), Fail> {
     let alloc = rt.alloc();
-    let column = rows(alloc, "{a:u8,b:text?}", "(1,x)\n")?;
-    assert!(rt; is_of(alloc, &column, "{a:u8,b:text?}")?);
-    assert!(rt; !is_of(alloc, &column, "{a:u8,b:text}")?);
-    assert!(rt; !is_of(alloc, &column, "{a:u8,c:text?}")?);
-    assert!(rt; !is_of(alloc, &column, "{a:i8,b:text?}")?);
-    assert!(rt; !is_of(alloc, &column, "{a:u8}")?);
+    assert!(rt; is_pair(alloc, "{a:u8,b:text?}")?);
+    for other in [
+        "{a:u8,b:text}",
+        "{a:u8,c:text?}",
+        "{a:i8,b:text?}",
+        "{a:u8}",
+    ] {
+        assert!(rt; !is_pair(alloc, other)?);
+    }
     Ok(())
 }
 
