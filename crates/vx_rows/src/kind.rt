@@ -5,7 +5,8 @@ ghost use Rattle.vx_data.specs.Scalar.{scalar_view};
 ghost use Rattle.std.specs.Option.{option_map};
 ghost use Rattle.vx_rows.specs.Columns.{is_signed as signed};
 ghost use Rattle.vx_rows.specs.Written.{value_bits, is_within as within};
-ghost use Rattle.vx_rows.specs.Binding.{kind_of as kind_by_type, is_of as of_type, lit_kind, holds_all as holds_each, int_kind, cast_kind, same_ptype as are_one, add_kinds, are_alike as alike, compare_kinds, logic_kind, logic_kinds};
+ghost use Rattle.vx_rows.specs.Binding.{kind_of as kind_by_type, is_of as of_type, lit_kind, holds_all as holds_each, int_kind, cast_kind};
+ghost use Rattle.vx_rows.specs.Binding.{same_ptype as are_one, add_kinds, are_alike as alike, compare_kinds, logic_kind, logic_kinds};
 
 use crate::BindError;
 use vx_data::{DType, PType, Scalar};

@@ -1,4 +1,4 @@
-//! Columns of rows, the bytes of arrays, and the texts of values.
+//! Columns of rows, the bytes of arrays, the texts of values, statistics of rows, and predicates on them.
 #![tactic(auto)]
 
 mod array_error;
