@@ -159,6 +159,14 @@ impl Layout {
         &self.children
     }
 
+    /// The layouts below, over which the layout fits its type.
+    pub fn fitted_children(&self) -> &[Layout]
+        ensures below { layouts_of result.now ≡ children_of self.now }
+        ensures fits { Fits (kind_of self.now) (dtype_of self.now) (rows_of self.now) (segments_of self.now) result.now }
+    {
+        &self.children
+    }
+
     /// The layouts below, whose rows are those of the layout where it is chunked.
     pub(crate) fn chunks(&self) -> &[Layout]
         ensures below { layouts_of result.now ≡ children_of self.now }
