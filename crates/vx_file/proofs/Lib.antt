@@ -6,4 +6,5 @@ pub mod Looking
 pub mod Openings
 pub mod Opens
 pub mod Prepares
+pub mod ReaderOpenings
 pub mod Serves

@@ -4,9 +4,11 @@ pub mod Hints
 pub mod Loading
 pub mod Logs
 pub mod Memory
+pub mod OpenRead
 pub mod Opened
 pub mod Plans
 pub mod Prepared
+pub mod Pruned
 pub mod Ranges
 pub mod Scripts
 pub mod Serving

@@ -28,9 +28,9 @@ const CONCURRENCY: usize = 8;
 /// How a file is opened, what is known of it before, and the cache of its segments.
 #[derive(Drop)]
 pub struct VortexOpenOptions<C: SegmentCache> {
-    session: VortexSession,
-    options: ServeOptions,
-    cache: C,
+    pub(crate) session: VortexSession,
+    pub(crate) options: ServeOptions,
+    pub(crate) cache: C,
 }
 
 /// Sessions open files.

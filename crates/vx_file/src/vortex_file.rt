@@ -18,8 +18,8 @@ use vx_source::SegmentSource;
 /// where they were loaded.
 #[derive(Drop)]
 pub struct VortexFile<S: SegmentSource> {
-    footer: Footer,
-    source: S,
+    pub(crate) footer: Footer,
+    pub(crate) source: S,
     session: VortexSession,
     metadata: Option<Sequence<MetadataValue>>,
 }

@@ -39,6 +39,7 @@ use Rattle.vx_main.specs.Runs.{Gathers}
 use Rattle.vx_main.specs.Script.{script_of}
 use Rattle.vx_main.specs.Served.{FileCause, GivesBack}
 use Rattle.vx_main.specs.Sizes.{OpensFile}
+use Rattle.vx_main.proofs.Unopened.{unopened}
 
 -- ---- the status of an input
 
@@ -69,6 +70,7 @@ pub script-fails : (c : Command) (file : ℕ) (source source_now : SourceState) 
     → LeavesFiles c files files → ScriptCause source source_now (Err failure) → Gathers c source source_now files files (Err failure)
 script-fails c file source source_now files failures.Usage reads wanted told leaves h = absurd h
 script-fails c file source source_now files failures.MissingSegment reads wanted told leaves h = absurd h
+script-fails c file source source_now files (failures.Unbound error) reads wanted told leaves h = absurd h
 script-fails c file source source_now files (failures.Line line) reads wanted told leaves h = record {
   each = λ out. record {
     fault = record { reads = reads; wants = h; files = refl; out = refl };
@@ -104,6 +106,7 @@ pub serve-fails : (s : serve.Serve) (steps : List Step) (source source_now : Sou
     → FileCause (serve_hints s) (settings_by s.reading) (new_cache s.reading.kept) s.name steps files files_now (Err failure) → Gathers (commands.Serve s) source source_now files files_now (Err failure)
 serve-fails s steps source source_now files files_now failures.Usage script h = absurd h
 serve-fails s steps source source_now files files_now failures.MissingSegment script h = absurd h
+serve-fails s steps source source_now files files_now (failures.Unbound error) script h = absurd h
 serve-fails s steps source source_now files files_now (failures.Line line) script h = absurd h
 serve-fails s steps source source_now files files_now (failures.Refused refusal) script h = record {
   each = λ out. record {
@@ -170,6 +173,7 @@ pub demo-fails : (d : demo.Demo) (steps : List Step) (source source_now : Source
     → Gathers (commands.Demo d) source source_now files files (Err failure)
 demo-fails d steps source source_now files failures.Usage h = absurd h
 demo-fails d steps source source_now files failures.MissingSegment h = absurd h
+demo-fails d steps source source_now files (failures.Unbound error) h = absurd h
 demo-fails d steps source source_now files (failures.Line line) h = absurd h
 demo-fails d steps source source_now files (failures.Refused refusal) h = absurd h
 demo-fails d steps source source_now files (failures.Read fault) h = absurd h
@@ -207,44 +211,22 @@ no-replies [] e = refl
 no-replies (reply ∷ replies) e = absurd cc
 
 -- what opening without a step and without the metadata asked
-asked-nothing-more : (name : List ℕ) (ranges : List (ℕ × ℕ)) (spans : List Span) (replies : List Reply) (before now : OpenerState) → spans ≡ [] → length replies ≡ 0 → GivesBack name before now (asked ranges spans replies)
+pub asked-nothing-more : (name : List ℕ) (ranges : List (ℕ × ℕ)) (spans : List Span) (replies : List Reply) (before now : OpenerState) → spans ≡ [] → length replies ≡ 0 → GivesBack name before now (asked ranges spans replies)
     → GivesBack name before now (opened ranges)
 asked-nothing-more name ranges spans replies before now no_spans none h =
     subst (GivesBack name before now) (append-nil (opened ranges ++ []) ∙ append-nil (opened ranges)) (subst (λ ss. GivesBack name before now (asked ranges ss [])) no_spans (subst (λ rs. GivesBack name before now (asked ranges spans rs)) (no-replies replies none) h))
 
 -- the file was not opened
 pub sizes-fails : (s : sizes.Sizes) (source : SourceState) (files files_now : OpenerState) (failure : Failure) → opens s files files_now (Err failure) → Gathers (commands.Sizes s) source source files files_now (Err failure)
-sizes-fails s source files files_now failures.Usage h = absurd h
-sizes-fails s source files files_now (failures.Line line) h = absurd h
-sizes-fails s source files files_now (failures.Refused refusal) h = record {
-  each = λ out. record {
-    name = s.name;
-    asks = record { named = refl; input = refl; asked = h.0; out = refl };
-    back = h.1;
-    refuses = h.2;
-    deserved = λ told. unmeasured-status (sizes_hints s) refusal (files.file s.name) told (λ file e. (h.2 file e tt).fails);
-  };
-}
-sizes-fails s source files files_now failures.MissingSegment h = absurd h
-sizes-fails s source files files_now (failures.Read fault) h = record {
-  each = λ out. record {
-    name = s.name;
-    asks = record { named = refl; input = refl; asked = h.0; out = refl };
-    back = h.1;
-    rose = h.2;
-    lacks = h.3;
-  };
-}
-sizes-fails s source files files_now failures.Input h = absurd h
-sizes-fails s source files files_now failures.Output h = absurd h
-sizes-fails s source files files_now (failures.Open name) h = record {
-  each = λ out. record {
-    asks = record { named = ap (λ n. n ∷ []) (sym h.0); input = refl; asked = subst (λ n. AsksFor n files files_now) (sym h.0) h.1; out = refl };
-    rose = h.2;
-  };
-}
-sizes-fails s source files files_now failures.InputTooLong h = absurd h
-sizes-fails s source files files_now failures.OutOfMemory h = record { each = λ out. record { files = h; out = inl refl } }
+sizes-fails s source files files_now failure h = unopened (commands.Sizes s) s.name source files files_now failure (record {
+  named = refl;
+  silent = refl;
+  chosen = λ own. refl;
+  unsized = refl;
+  leaves = λ leaves. leaves;
+  told = λ out told. told;
+  refused = λ refusal told fails out. unmeasured-status (sizes_hints s) refusal (files.file s.name) told fails;
+}) h
 
 -- the file was opened
 module _ (s : sizes.Sizes) (source : SourceState) (files files_now : OpenerState) (served : Served) (h : opens s files files_now (Ok served)) where

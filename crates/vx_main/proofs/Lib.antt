@@ -4,10 +4,12 @@ pub mod HexLemmas
 pub mod LayoutLines
 pub mod Lines
 pub mod Lists
-pub mod OptionLemmas
 pub mod Openings
+pub mod OptionLemmas
 pub mod Performing
+pub mod PruneArms
 pub mod RowTypes
 pub mod StatusRows
 pub mod Streaming
 pub mod TextLemmas
+pub mod Unopened

@@ -36,6 +36,7 @@ script-cause before now text (Err failures.OutOfMemory) read h = tt
 script-cause before now text (Err failures.Usage) read h = absurd h
 script-cause before now text (Err (failures.Refused refusal)) read h = absurd h
 script-cause before now text (Err failures.MissingSegment) read h = absurd h
+script-cause before now text (Err (failures.Unbound error)) read h = absurd h
 script-cause before now text (Err (failures.Read fault)) read h = absurd h
 script-cause before now text (Err failures.Input) read h = absurd h
 script-cause before now text (Err failures.Output) read h = absurd h
@@ -121,6 +122,7 @@ file-cause hints chosen cache cache_now name script before now opened served (Er
 file-cause hints chosen cache cache_now name script before now opened served (Err failures.OutOfMemory) lent first last given read = inr (record { asked = lent.asked; back = inl (gave-back name (chosen (before.settings name)) before now opened served lent) })
 file-cause hints chosen cache cache_now name script before now opened served (Err (failures.Line line)) lent first last given read = absurd read
 file-cause hints chosen cache cache_now name script before now opened served (Err failures.MissingSegment) lent first last given read = absurd read
+file-cause hints chosen cache cache_now name script before now opened served (Err (failures.Unbound error)) lent first last given read = absurd read
 file-cause hints chosen cache cache_now name script before now opened served (Err failures.Usage) lent first last given read = absurd read
 file-cause hints chosen cache cache_now name script before now opened served (Err failures.Input) lent first last given read = absurd read
 file-cause hints chosen cache cache_now name script before now opened served (Err failures.Output) lent first last given read = absurd read

@@ -22,6 +22,7 @@ leaves-same commands.Version files = refl
 leaves-same (commands.Serve s) files = inl (record { asked = refl; returned = refl })
 leaves-same (commands.Demo d) files = refl
 leaves-same (commands.Sizes s) files = inl (record { asked = refl; returned = refl })
+leaves-same (commands.Prune p) files = inl (record { asked = refl; returned = refl })
 
 -- the words were no command, or there was no memory for it
 pub unparsed : (command : Option Command) (before : Outside) (failure : Failure) → Parses {A = Command} command (Err failure) → Performs command before before (Err failure)
@@ -32,6 +33,7 @@ unparsed (Some c) before failures.OutOfMemory h = record { files = leaves-same c
 unparsed command before (failures.Line line) h = absurd h
 unparsed command before (failures.Refused refusal) h = absurd h
 unparsed command before failures.MissingSegment h = absurd h
+unparsed command before (failures.Unbound error) h = absurd h
 unparsed command before (failures.Read fault) h = absurd h
 unparsed command before failures.Input h = absurd h
 unparsed command before failures.Output h = absurd h
@@ -55,6 +57,7 @@ leaves-of commands.Version source source_now files files_now answer h out = (h.e
 leaves-of (commands.Serve s) source source_now files files_now answer h out = inr (record { asked = (h.each out).is.asked; back = inl (h.each out).is.back })
 leaves-of (commands.Demo d) source source_now files files_now answer h out = (h.each out).is.files
 leaves-of (commands.Sizes s) source source_now files files_now answer h out = inr (record { asked = (h.each out).is.asked; back = inl (h.each out).is.back })
+leaves-of (commands.Prune p) source source_now files files_now answer h out = inr (record { asked = (h.each out).is.asked; back = inl (h.each out).is.back })
 
 -- what is answered does not depend on the output
 again : (c : Command) (source source_now : SourceState) (files files_now : OpenerState) (out out' now' : SinkState) (answer : Answer) → IsAnswer c (outside source files out) (outside source_now files_now out') answer
@@ -64,6 +67,7 @@ again commands.Version source source_now files files_now out out' now' answer h 
 again (commands.Serve s) source source_now files files_now out out' now' answer h = record { served = h.served; is = h.is; steps = h.steps; script = h.script; asked = h.asked; back = h.back; serves = h.serves }
 again (commands.Demo d) source source_now files files_now out out' now' answer h = record { served = h.served; is = h.is; steps = h.steps; script = h.script; demonstrates = h.demonstrates; files = h.files }
 again (commands.Sizes s) source source_now files files_now out out' now' answer h = record { sizes = h.sizes; is = h.is; source = h.source; asked = h.asked; back = h.back; measures = h.measures }
+again (commands.Prune p) source source_now files files_now out out' now' answer h = record { skipped = h.skipped; is = h.is; source = h.source; asked = h.asked; back = h.back; judges = h.judges }
 
 pub written : (command : Option Command) (c : Command) (source source_now : SourceState) (files files_now : OpenerState) (out out_now : SinkState) (answer : Answer) → command ≡ Some c → Gathers c source source_now files files_now (Ok answer)
     → Writes (text_of answer) out out_now (Ok tt) → Performs command (outside source files out) (outside source_now files_now out_now) (Ok tt)

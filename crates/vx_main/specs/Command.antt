@@ -6,11 +6,13 @@ use Rattle.vx_base.specs.Readers.{ReaderSettings}
 use Rattle.vx_data.specs.Dtype.{Dtype}
 use Rattle.vx_data.specs.TextsRead.{dtype_of_text}
 use Rattle.vx_main.specs.declared.command.Command.{Command}
-use Rattle.vx_main.specs.declared.command.Command.TheVariants.{Help, Version, Serve, Demo, Sizes}
+use Rattle.vx_main.specs.declared.command.Command.TheVariants.{Help, Version, Serve, Demo, Sizes, Prune}
 use Rattle.vx_file.specs.Hints.{Hints, no_hints}
 use Rattle.vx_main.specs.declared.commands.demo.TheConstants.{MOST_VALUES}
 use Rattle.vx_main.specs.declared.commands.serve.Serve as serve
 use Rattle.vx_main.specs.declared.commands.sizes.Sizes as sizes
+use Rattle.vx_main.specs.declared.commands.prune.Prune as prune
+use Rattle.vx_prune.specs.PredicateWords.{predicate_of}
 use Rattle.vx_main.specs.declared.failure.Failure.{Failure}
 use Rattle.vx_main.specs.declared.failure.Failure.TheVariants as failures
 use Rattle.vx_main.specs.Numbers.{value_of}
@@ -107,17 +109,42 @@ abbrev pub sizes_of : List (List ℕ) → Option Command
 sizes_of [] = None
 sizes_of (word ∷ words) = option_map (λ s. Sizes s) (sizes_behind (name_of word) words)
 
+-- words that spell a predicate
+abbrev pub filter_of : List (List ℕ) → Option (List (List ℕ))
+filter_of words = if is_some (predicate_of words) then Some words else None
+
+-- a predicate on the rows of a file, whose type may be known
+abbrev pub typed_filter : List ℕ → Option (Option Dtype) → List (List ℕ) → Option prune.Prune
+typed_filter name None words = None
+typed_filter name (Some d) words = option_map (λ filter. record { name = name; dtype = d; filter = filter }) (filter_of words)
+
+-- a type and a predicate
+abbrev pub prune_typed : List ℕ → List (List ℕ) → Option prune.Prune
+prune_typed name [] = None
+prune_typed name (word ∷ words) = typed_filter name (option_map (λ d. Some d) (dtype_of_text word)) words
+
+-- a name, `--dtype` and a type, which may lack, and a predicate
+abbrev pub prune_behind : Option (List ℕ) → List (List ℕ) → Option prune.Prune
+prune_behind None words = None
+prune_behind (Some name) [] = typed_filter name (Some None) []
+prune_behind (Some name) (word ∷ words) = if bytes_eq word (codes "--dtype") then prune_typed name words else typed_filter name (Some None) (word ∷ words)
+
+abbrev pub prune_of : List (List ℕ) → Option Command
+prune_of [] = None
+prune_of (word ∷ words) = option_map (λ p. Prune p) (prune_behind (name_of word) words)
+
 -- at least one value, and at most so many
 abbrev pub demo_of : List (List ℕ) → Option Command
 demo_of words = if nat_lt 0 (length words) && nat_le (length words) MOST_VALUES then option_map (λ values. Demo (record { values = values })) (all_values words) else None
 
--- `--help` and `--version` alone, `serve NAME ..`, `sizes NAME ..`, or `demo V ..`
+-- `--help` and `--version` alone, `serve NAME ..`, `sizes NAME ..`, `prune NAME ..`, or `demo V ..`
 abbrev pub command_of : List (List ℕ) → Option Command
 command_of [] = None
 command_of (word ∷ words) =
     if bytes_eq word (codes "serve") then serve_of words
     else if bytes_eq word (codes "demo") then demo_of words
     else if bytes_eq word (codes "sizes") then sizes_of words
+    else if bytes_eq word (codes "prune") then prune_of words
     else if bytes_eq word (codes "--help") then alone Help words
     else if bytes_eq word (codes "--version") then alone Version words
     else None
@@ -137,6 +164,9 @@ serve_hints s = record { size = s.size; initial = s.initial; dtype = s.dtype; fo
 abbrev pub sizes_hints : sizes.Sizes → Hints
 sizes_hints s = record { size = None; initial = 0; dtype = s.dtype; footer = None; metadata = false }
 
+abbrev pub prune_hints : prune.Prune → Hints
+prune_hints p = record { size = None; initial = 0; dtype = p.dtype; footer = None; metadata = false }
+
 -- what it is told of the file that it opens
 abbrev pub hints_of : Command → Hints
 hints_of Help = no_hints
@@ -144,6 +174,7 @@ hints_of Version = no_hints
 hints_of (Serve s) = serve_hints s
 hints_of (Demo d) = no_hints
 hints_of (Sizes s) = sizes_hints s
+hints_of (Prune p) = prune_hints p
 
 -- the settings with which it reads, by those of the reader
 abbrev pub settings_of_command : Command → ReaderSettings → ReaderSettings
@@ -152,6 +183,7 @@ settings_of_command Version own = own
 settings_of_command (Serve s) own = settings_by s.reading own
 settings_of_command (Demo d) own = own
 settings_of_command (Sizes s) own = settings_by plain_reading own
+settings_of_command (Prune p) own = settings_by plain_reading own
 
 -- the names of the files that it opens
 abbrev pub names_of : Command → List (List ℕ)
@@ -160,6 +192,7 @@ names_of Version = []
 names_of (Serve s) = s.name ∷ []
 names_of (Demo d) = []
 names_of (Sizes s) = s.name ∷ []
+names_of (Prune p) = p.name ∷ []
 
 -- whether it reads a script from its input
 abbrev pub reads_script : Command → Bool
@@ -168,3 +201,4 @@ reads_script Version = false
 reads_script (Serve s) = true
 reads_script (Demo d) = true
 reads_script (Sizes s) = false
+reads_script (Prune p) = false

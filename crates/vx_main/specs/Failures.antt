@@ -1,16 +1,22 @@
 -- The failures of the program: each with its status, its line, and its cause.
-use Rattle.std.specs.Prelude.{◌≡◌, ℕ, Bool, true, false, List, [], ◌∷◌, ◌++◌, codes, decimal, Some, ◌⊎◌}
+use Rattle.std.specs.Prelude.{◌≡◌, ℕ, Bool, true, false, List, [], ◌∷◌, ◌++◌, codes, decimal, Some, Ok, Err, ◌⊎◌}
 use Rattle.vx_base.specs.Counts.{Rises}
 use Rattle.vx_base.specs.Openers.{OpenerState, AsksFor}
 use Rattle.vx_base.specs.Streams.{SourceState, TookPrefix}
 use Rattle.vx_footer.specs.declared.error.OpenError.{OpenError}
+use Rattle.vx_footer.specs.Footers.{FooterContent}
+use Rattle.vx_footer.specs.Opening.{vx_grammar}
+use Rattle.vx_rows.specs.declared.bind_error.BindError.{BindError}
+use Rattle.vx_rows.specs.Predicates.{Pred}
+use Rattle.vx_prune.specs.PredicateWords.{predicate_of}
+use Rattle.vx_file.specs.Pruned.{pruned}
 use Rattle.vx_sched.specs.declared.fault.Fault.{Fault}
 use Rattle.vx_sched.specs.declared.fault.Place.{Place}
 use Rattle.vx_sched.specs.declared.fault.Place.TheVariants.{Size, Range}
 use Rattle.vx_file.specs.declared.step.Step.{Step}
 use Rattle.vx_main.specs.declared.answer.Answer.{Answer}
 use Rattle.vx_main.specs.declared.command.Command.{Command}
-use Rattle.vx_main.specs.declared.command.Command.TheVariants.{Help, Version, Serve, Demo, Sizes}
+use Rattle.vx_main.specs.declared.command.Command.TheVariants.{Help, Version, Serve, Demo, Sizes, Prune}
 use Rattle.vx_main.specs.declared.failure.Failure.{Failure}
 use Rattle.vx_main.specs.declared.failure.Failure.TheVariants as failures
 use Rattle.vx_file.specs.Hints.{IsSizeOf}
@@ -19,7 +25,7 @@ use Rattle.vx_main.specs.Command.{names_of, reads_script, hints_of, settings_of_
 use Rattle.vx_main.specs.Input.{ReadsScript, BadLine, BadLength}
 use Rattle.vx_main.specs.Outputs.{IsAnswer, text_of, Deserves, LacksSegment}
 use Rattle.vx_main.specs.Outside.{Outside}
-use Rattle.vx_main.specs.Refusals.{refusal_words}
+use Rattle.vx_main.specs.Refusals.{refusal_words, bind_error_words}
 use Rattle.vx_main.specs.Render.{fault_words}
 use Rattle.vx_main.specs.Served.{GaveBack, LeavesOpener, RefusesFile, LacksFile}
 
@@ -30,6 +36,7 @@ status_of failures.Usage = 2
 status_of (failures.Line line) = 3
 status_of (failures.Refused refusal) = 4
 status_of failures.MissingSegment = 4
+status_of (failures.Unbound error) = 4
 status_of (failures.Read fault) = 5
 status_of failures.Input = 6
 status_of failures.Output = 7
@@ -47,6 +54,7 @@ failure_words failures.Usage = codes "usage"
 failure_words (failures.Line line) = codes "line " ++ decimal line
 failure_words (failures.Refused refusal) = refusal_words refusal
 failure_words failures.MissingSegment = codes "MissingSegment"
+failure_words (failures.Unbound error) = bind_error_words error
 failure_words (failures.Read fault) = codes "read " ++ read_words fault fault.place
 failure_words failures.Input = codes "input"
 failure_words failures.Output = codes "output"
@@ -118,6 +126,25 @@ pub record Lacking (c : Command) (before now : Outside) : Type 0 where
   pub lacks : (file : List ℕ) → before.files.file name ≡ Some file → LacksSegment (hints_of c) file
   pub deserved : Deserves c before 4
 
+-- why the predicate of a command is not one on the rows of a file
+abbrev pub Misfits : Command → FooterContent → BindError → Type 0
+Misfits (Prune p) footer error = (predicate : Pred) × (predicate_of p.filter ≡ Some predicate) × (pruned predicate footer ≡ Err error)
+Misfits _ footer error = ⊥
+
+-- a file of the grammar on whose rows it is none
+pub record MisfitsFile (c : Command) (file : List ℕ) (error : BindError) : Type 0 where
+  pub footer : FooterContent
+  pub grammar : vx_grammar file (hints_of c).dtype ≡ Ok footer
+  pub misfits : Misfits c footer error
+
+-- the predicate is not one on the rows of the file, and its reader was given back
+pub record Misfit (c : Command) (before now : Outside) (error : BindError) : Type 0 where
+  pub name : List ℕ
+  pub asks : Asks c before now name
+  pub back : GaveBack name before.files now.files
+  pub misfits : (file : List ℕ) → before.files.file name ≡ Some file → MisfitsFile c file error
+  pub deserved : Deserves c before 4
+
 -- a write of the answer's text failed, and a prefix of it stands on the output
 pub record OutputFault (c : Command) (before now : Outside) : Type 0 where
   pub answer : Answer
@@ -140,6 +167,7 @@ LeavesFiles Version before now = now ≡ before
 LeavesFiles (Serve s) before now = LeavesOpener s.name before now
 LeavesFiles (Demo d) before now = now ≡ before
 LeavesFiles (Sizes s) before now = LeavesOpener s.name before now
+LeavesFiles (Prune p) before now = LeavesOpener p.name before now
 
 -- memory ran out
 pub record Stopped (c : Command) (before now : Outside) : Type 0 where
@@ -156,5 +184,6 @@ HasCause c before now (failures.Open name) = OpenFault c before now name
 HasCause c before now (failures.Read fault) = ReadFault c before now fault
 HasCause c before now (failures.Refused refusal) = Refusal c before now refusal
 HasCause c before now failures.MissingSegment = Lacking c before now
+HasCause c before now (failures.Unbound error) = Misfit c before now error
 HasCause c before now failures.Output = OutputFault c before now
 HasCause c before now failures.OutOfMemory = Stopped c before now

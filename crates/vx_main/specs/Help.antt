@@ -40,6 +40,9 @@ cache_help = codes "      --cache N     the N segments used last are kept, 1 to 
 abbrev pub sizes_help : List ℕ
 sizes_help = codes "  sizes NAME    prints how many bytes each field of the file NAME takes\n      --dtype D     the rows have the type D: the file's own is not read\n"
 
+abbrev pub prune_help : List ℕ
+prune_help = codes "  prune NAME P  prints whether the file NAME can be skipped, since no row of it\n                satisfies the predicate P; a --dtype stands in front of P\n"
+
 abbrev pub demo_help : List ℕ
 demo_help = codes "  demo V ..     serves a file of the values V, 1 to 8192 numbers of 32 bits,\n                which it writes to memory\n"
 
@@ -64,6 +67,9 @@ drop_help = codes "  d NUMBER      drops the request of a number\n"
 abbrev pub drive_help : List ℕ
 drive_help = codes "  go            reads for each request that was polled and waits\n\n"
 
+abbrev pub predicates_help : List ℕ
+predicates_help = codes "predicates, each node in front of its operands\n  root   field PATH   lit TYPE VALUE   cast TYPE P   add P P   eq|ne|lt|le|gt|ge P P\n  and P P   or P P   not P   isnull P   notnull P\n\n"
+
 abbrev pub statuses_help : List ℕ
 statuses_help = codes "exit statuses, each with a line on standard error but 0\n"
 
@@ -81,5 +87,5 @@ example_help = codes "example\n  printf 'r 0\\np 0\\n' | vx demo 1 2 3 4\n"
 
 abbrev pub help_text : List ℕ
 help_text =
-    what_help ++ usage_help ++ commands_help ++ serve_help ++ serve_more_help ++ size_help ++ initial_help ++ dtype_help ++ meta_help ++ distance_help ++ reads_help ++ cache_help ++ sizes_help ++ demo_help ++ texts_help ++ options_help
-    ++ script_help ++ register_help ++ poll_help ++ drop_help ++ drive_help ++ statuses_help ++ statuses_2_help ++ statuses_3_help ++ statuses_4_help ++ example_help
+    what_help ++ usage_help ++ commands_help ++ serve_help ++ serve_more_help ++ size_help ++ initial_help ++ dtype_help ++ meta_help ++ distance_help ++ reads_help ++ cache_help ++ sizes_help ++ prune_help ++ demo_help ++ texts_help ++ options_help
+    ++ script_help ++ register_help ++ poll_help ++ drop_help ++ drive_help ++ predicates_help ++ statuses_help ++ statuses_2_help ++ statuses_3_help ++ statuses_4_help ++ example_help

@@ -1,5 +1,5 @@
 -- What each command prints, and the status that it deserves.
-use Rattle.std.specs.Prelude.{◌≡◌, ℕ, ℤ, true, List, length, codes, Option, Some, None, is_some, Result, Ok, Err, nat_lt, if◌then◌else◌}
+use Rattle.std.specs.Prelude.{◌≡◌, ℕ, ℤ, Bool, true, false, List, length, codes, Option, Some, None, is_some, Result, Ok, Err, nat_lt, if◌then◌else◌}
 use Rattle.vx_base.specs.Openers.{OpenerState, AsksFor}
 use Rattle.vx_footer.specs.declared.error.OpenError.{OpenError}
 use Rattle.vx_footer.specs.FieldSizes.{SizeList, AreSizes, missing}
@@ -7,16 +7,20 @@ use Rattle.vx_footer.specs.Footers.{FooterContent}
 use Rattle.vx_footer.specs.Opening.{vx_grammar}
 use Rattle.vx_file.specs.declared.step.Step.{Step}
 use Rattle.vx_file.specs.declared.served.Served.{Served}
+use Rattle.vx_prune.specs.PredicateWords.{predicate_of}
+use Rattle.vx_rows.specs.declared.bind_error.BindError.{BindError}
+use Rattle.vx_rows.specs.Predicates.{Pred}
 use Rattle.vx_write.specs.Column.{written}
 use Rattle.vx_main.specs.declared.answer.Answer.{Answer}
 use Rattle.vx_main.specs.declared.answer.Answer.TheVariants as answers
 use Rattle.vx_main.specs.declared.command.Command.{Command}
-use Rattle.vx_main.specs.declared.command.Command.TheVariants.{Help, Version, Serve, Demo, Sizes}
+use Rattle.vx_main.specs.declared.command.Command.TheVariants.{Help, Version, Serve, Demo, Sizes, Prune}
 use Rattle.vx_main.specs.declared.input.TheConstants.{MOST_INPUT}
 use Rattle.vx_file.specs.Hints.{Hints, IsSizeOf}
 use Rattle.vx_file.specs.Plans.{plan_of}
+use Rattle.vx_file.specs.Pruned.{pruned}
 use Rattle.vx_file.specs.Ranges.{tail_ranges, opened}
-use Rattle.vx_main.specs.Command.{serve_hints, sizes_hints}
+use Rattle.vx_main.specs.Command.{serve_hints, sizes_hints, prune_hints}
 use Rattle.vx_main.specs.Demo.{Demonstrates}
 use Rattle.vx_main.specs.Help.{help_text}
 use Rattle.vx_main.specs.Input.{ReadsScript}
@@ -32,12 +36,17 @@ use Rattle.vx_main.specs.SizesText.{sizes_text}
 abbrev pub version_text : List ℕ
 version_text = codes "vx 0.1.0\n"
 
+abbrev pub truth_text : Bool → List ℕ
+truth_text true = codes "true\n"
+truth_text false = codes "false\n"
+
 -- the text of an answer
 abbrev pub text_of : Answer → List ℕ
 text_of answers.Help = help_text
 text_of answers.Version = version_text
 text_of (answers.Served served) = render_text served
 text_of (answers.Sizes sizes) = sizes_text sizes.entries
+text_of (answers.Pruned skipped) = truth_text skipped
 
 -- a fixed text, for which nothing was read and no file was opened
 pub record IsFixed (fixed : Answer) (before now : Outside) (answer : Answer) : Type 0 where
@@ -89,6 +98,26 @@ pub record IsMeasured (hints : Hints) (name : List ℕ) (before now : Outside) (
   pub back : GaveBack name before.files now.files
   pub measures : (file : List ℕ) → before.files.file name ≡ Some file → Measures hints file name before.files now.files sizes
 
+-- ---- whether a file can be skipped
+
+-- a file of the grammar was opened, and this is what pruning it by the predicate of words gives
+pub record Judges (hints : Hints) (words : List (List ℕ)) (file name : List ℕ) (before now : OpenerState) (answer : Result Bool BindError) : Type 0 where
+  pub footer : FooterContent
+  pub grammar : vx_grammar file hints.dtype ≡ Ok footer
+  pub predicate : Pred
+  pub spelled : predicate_of words ≡ Some predicate
+  pub is : pruned predicate footer ≡ answer
+  pub back : GivesBack name before now (opened (tail_ranges hints file))
+
+-- whether the file of a name can be skipped, and the input was not touched
+pub record IsJudged (hints : Hints) (words : List (List ℕ)) (name : List ℕ) (before now : Outside) (answer : Answer) : Type 0 where
+  pub skipped : Bool
+  pub is : answer ≡ answers.Pruned skipped
+  pub source : now.source ≡ before.source
+  pub asked : AsksFor name before.files now.files
+  pub back : GaveBack name before.files now.files
+  pub judges : (file : List ℕ) → before.files.file name ≡ Some file → Judges hints words file name before.files now.files (Ok skipped)
+
 -- what each command answers
 abbrev pub IsAnswer : Command → Outside → Outside → Answer → Type 0
 IsAnswer Help before now answer = IsFixed answers.Help before now answer
@@ -96,6 +125,7 @@ IsAnswer Version before now answer = IsFixed answers.Version before now answer
 IsAnswer (Serve s) before now answer = IsServed (serve_hints s) s.reading s.name before now answer
 IsAnswer (Demo d) before now answer = IsDemonstrated d.values before now answer
 IsAnswer (Sizes s) before now answer = IsMeasured (sizes_hints s) s.name before now answer
+IsAnswer (Prune p) before now answer = IsJudged (prune_hints p) p.filter p.name before now answer
 
 -- ---- the status that a command deserves
 
@@ -129,6 +159,19 @@ abbrev pub measured_status : Hints → Option (List ℕ) → ℕ
 measured_status hints None = 0
 measured_status hints (Some file) = sizes_status (vx_grammar file hints.dtype)
 
+-- a predicate that is not one on the rows is refused
+abbrev pub predicate_status : Option Pred → FooterContent → ℕ
+predicate_status None footer = 0
+predicate_status (Some predicate) footer = grammar_status (pruned predicate footer)
+
+abbrev pub pruned_status : List (List ℕ) → Result FooterContent OpenError → ℕ
+pruned_status words (Ok footer) = predicate_status (predicate_of words) footer
+pruned_status words (Err refusal) = 4
+
+abbrev pub judged_status : Hints → List (List ℕ) → Option (List ℕ) → ℕ
+judged_status hints words None = 0
+judged_status hints words (Some file) = pruned_status words (vx_grammar file hints.dtype)
+
 -- the status that the words, the input and the file deserve
 abbrev pub wanted_status : Command → Outside → ℕ
 wanted_status Help before = 0
@@ -136,6 +179,7 @@ wanted_status Version before = 0
 wanted_status (Serve s) before = input_status before.source.rest (file_status (serve_hints s) (before.files.file s.name))
 wanted_status (Demo d) before = input_status before.source.rest (grammar_status (vx_grammar (written d.values) None))
 wanted_status (Sizes s) before = measured_status (sizes_hints s) (before.files.file s.name)
+wanted_status (Prune p) before = judged_status (prune_hints p) p.filter (before.files.file p.name)
 
 -- a size that is supplied is that of the file, where the file is told
 abbrev pub IsTrueSize : Option ℕ → Option (List ℕ) → Type 0
@@ -149,6 +193,7 @@ IsTold Version before = Unit {0}
 IsTold (Serve s) before = (is_some before.source.rest ≡ true) × (is_some (before.files.file s.name) ≡ true) × IsTrueSize s.size (before.files.file s.name)
 IsTold (Demo d) before = is_some before.source.rest ≡ true
 IsTold (Sizes s) before = is_some (before.files.file s.name) ≡ true
+IsTold (Prune p) before = is_some (before.files.file p.name) ≡ true
 
 abbrev pub Deserves : Command → Outside → ℕ → Type 0
 Deserves c before code = IsTold c before → wanted_status c before ≡ code

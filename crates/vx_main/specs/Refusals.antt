@@ -3,6 +3,8 @@ use Rattle.std.specs.Prelude.{ℕ, List, codes}
 use Rattle.vx_footer.specs.declared.error.OpenError.{OpenError}
 use Rattle.vx_footer.specs.declared.error.OpenError.TheVariants as refusals
 use Rattle.vx_footer.specs.declared.error.Which.TheVariants as which
+use Rattle.vx_rows.specs.declared.bind_error.BindError.{BindError}
+use Rattle.vx_rows.specs.declared.bind_error.BindError.TheVariants as unbound
 
 -- the check's name, and in brackets the table that it is about
 abbrev pub refusal_words : OpenError → List ℕ
@@ -29,3 +31,10 @@ refusal_words (refusals.BadTable which.DType) = codes "BadTable(DType)"
 refusal_words (refusals.BadTable which.Layout) = codes "BadTable(Layout)"
 refusal_words (refusals.BadTable which.Statistics) = codes "BadTable(Statistics)"
 refusal_words (refusals.BadTable which.Footer) = codes "BadTable(Footer)"
+
+-- the reason why a predicate is not bound
+abbrev pub bind_error_words : BindError → List ℕ
+bind_error_words unbound.NoField = codes "NoField"
+bind_error_words unbound.TypeMismatch = codes "TypeMismatch"
+bind_error_words unbound.NarrowingCast = codes "NarrowingCast"
+bind_error_words unbound.OutOfMemory = codes "OutOfMemory"

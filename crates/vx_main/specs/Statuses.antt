@@ -3,6 +3,7 @@ use Rattle.std.specs.Prelude.{◌≡◌, ℕ, ◌∷◌, [], Bool, true, false, 
 use Rattle.vx_base.specs.Openers.{OpenerState}
 use Rattle.vx_base.specs.Streams.{SinkState}
 use Rattle.vx_footer.specs.declared.error.OpenError.{OpenError}
+use Rattle.vx_rows.specs.declared.bind_error.BindError.{BindError}
 use Rattle.vx_sched.specs.declared.fault.Fault.{Fault}
 use Rattle.vx_main.specs.declared.command.Command.{Command}
 use Rattle.vx_main.specs.declared.failure.Failure.{Failure}
@@ -22,10 +23,11 @@ pub record Says (c : Command) (before now : Outside) (err err_now : SinkState) (
 abbrev pub SaysLine : Command → Outside → Outside → SinkState → SinkState → Type 0
 SaysLine c before now err err_now = (line : ℕ) × Says c before now err err_now (failures.Line line)
 
--- the file fails some check, or lacks a segment that its layout names
+-- the file fails some check, lacks a segment that its layout names, or has rows of which the predicate is none
 abbrev pub SaysRefused : Command → Outside → Outside → SinkState → SinkState → Type 0
 SaysRefused c before now err err_now =
     ((refusal : OpenError) × Says c before now err err_now (failures.Refused refusal)) ⊎ Says c before now err err_now failures.MissingSegment
+    ⊎ ((error : BindError) × Says c before now err err_now (failures.Unbound error))
 
 -- some read failed
 abbrev pub SaysRead : Command → Outside → Outside → SinkState → SinkState → Type 0

@@ -6,6 +6,7 @@ ghost use Rattle.vx_main.specs.Text.{Adds, Writes};
 use crate::print::help::put_help;
 use crate::print::served::put_served;
 use crate::print::sizes::put_sizes;
+use crate::print::truth::put_truth;
 use crate::printable::Printable;
 use crate::text::TextOut;
 use std::alloc::Global;
@@ -23,6 +24,8 @@ pub enum Answer {
     Served(Printable),
     /// How many bytes each field takes.
     Sizes(CompressedFieldSizes),
+    /// Whether the file can be skipped.
+    Pruned(bool),
 }
 
 impl Answer {
@@ -34,6 +37,7 @@ impl Answer {
             Answer::Version => text.word(out, VERSION),
             Answer::Served(printable) => put_served(printable, text, out),
             Answer::Sizes(sizes) => put_sizes(sizes, text, out),
+            Answer::Pruned(skipped) => put_truth(*skipped, text, out),
         }
     }
 

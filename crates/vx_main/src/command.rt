@@ -6,6 +6,7 @@ ghost use Rattle.vx_main.specs.Runs.{Gathers};
 
 use crate::answer::Answer;
 use crate::commands::demo::Demo;
+use crate::commands::prune::Prune;
 use crate::commands::serve::Serve;
 use crate::commands::sizes::Sizes;
 use crate::failure::Failure;
@@ -25,6 +26,8 @@ pub enum Command<'a> {
     Demo(Demo),
     /// Print how many bytes each field of the file of a name takes.
     Sizes(Sizes<'a>),
+    /// Print whether the file of a name can be skipped, since no row of it satisfies a predicate.
+    Prune(Prune<'a>),
 }
 
 /// A command without arguments.
@@ -55,6 +58,9 @@ impl<'a> Command<'a> {
         if word.as_str() == "sizes" {
             return Sizes::parse(alloc, rest);
         }
+        if word.as_str() == "prune" {
+            return Prune::parse(alloc, rest);
+        }
         if word.as_str() == "--help" {
             return alone(Command::Help, rest);
         }
@@ -80,6 +86,7 @@ impl<'a> Command<'a> {
             Command::Serve(serve) => serve.answer(alloc, input, files),
             Command::Demo(demo) => demo.answer(alloc, input),
             Command::Sizes(sizes) => sizes.answer(alloc, files),
+            Command::Prune(prune) => prune.answer(alloc, files),
         }
     }
 }

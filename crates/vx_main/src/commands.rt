@@ -1,4 +1,5 @@
 //! The commands, each with its arguments, how they are parsed, and what it answers.
 pub(crate) mod demo;
+pub(crate) mod prune;
 pub(crate) mod serve;
 pub(crate) mod sizes;

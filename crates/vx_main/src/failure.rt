@@ -7,11 +7,12 @@ ghost use Rattle.vx_base.specs.Streams.{SameSink};
 
 use crate::name::Name;
 use crate::print::fault::put_fault;
-use crate::refusal::refusal_name;
+use crate::refusal::{bind_error_name, refusal_name};
 use crate::text::TextOut;
 use std::alloc::{AllocError, Global};
 use vx_base::{Sink, SinkError};
 use vx_footer::OpenError;
+use vx_rows::BindError;
 use vx_sched::{Fault, Place};
 
 /// Why no text was printed, or not all of it.
@@ -25,6 +26,8 @@ pub enum Failure<'a> {
     Refused(OpenError),
     /// The layout of the file names a segment that the file has not.
     MissingSegment,
+    /// The predicate is not one on the rows of the file.
+    Unbound(BindError),
     /// The file could not be read.
     Read(Fault),
     /// The input could not be read.
@@ -67,7 +70,7 @@ impl<'a> Failure<'a> {
         match self {
             Failure::Usage => 2,
             Failure::Line(_) => 3,
-            Failure::Refused(_) | Failure::MissingSegment => 4,
+            Failure::Refused(_) | Failure::MissingSegment | Failure::Unbound(_) => 4,
             Failure::Read(_) => 5,
             Failure::Input => 6,
             Failure::Output => 7,
@@ -88,6 +91,7 @@ impl<'a> Failure<'a> {
             }
             Failure::Refused(refusal) => text.word(err, refusal_name(*refusal).as_bytes()),
             Failure::MissingSegment => text.word(err, b"MissingSegment"),
+            Failure::Unbound(error) => text.word(err, bind_error_name(*error).as_bytes()),
             Failure::Read(fault) => put_read(fault, text, err),
             Failure::Input => text.word(err, b"input"),
             Failure::Output => text.word(err, b"output"),

@@ -9,6 +9,7 @@ mod demo_tests;
 #[cfg(test)]
 mod example;
 mod failure;
+mod filter;
 mod input;
 mod laws;
 mod memory;
@@ -17,6 +18,8 @@ mod numbers;
 mod options;
 mod print;
 mod printable;
+#[cfg(test)]
+mod prune_tests;
 mod reading;
 #[cfg(test)]
 mod real_tests;

@@ -7,4 +7,5 @@ pub(crate) mod reply;
 pub(crate) mod served;
 pub(crate) mod sizes;
 pub(crate) mod statistics;
+pub(crate) mod truth;
 pub(crate) mod words;

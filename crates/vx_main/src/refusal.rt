@@ -1,8 +1,9 @@
 //! The names of refusals.
 ghost use Rattle.std.specs.Prelude.{◌≡◌};
-ghost use Rattle.vx_main.specs.Refusals.{refusal_words};
+ghost use Rattle.vx_main.specs.Refusals.{refusal_words, bind_error_words};
 
 use vx_footer::{OpenError, Which};
+use vx_rows::BindError;
 
 /// The name of the opening check that a file fails.
 pub(crate) fn refusal_name(refusal: OpenError) -> &'static str
@@ -32,5 +33,17 @@ pub(crate) fn refusal_name(refusal: OpenError) -> &'static str
         OpenError::BadTable(Which::Layout) => "BadTable(Layout)",
         OpenError::BadTable(Which::Statistics) => "BadTable(Statistics)",
         OpenError::BadTable(Which::Footer) => "BadTable(Footer)",
+    }
+}
+
+/// Why a predicate is not one on the rows of a file.
+pub(crate) fn bind_error_name(error: BindError) -> &'static str
+    ensures { result.now ≡ bind_error_words error }
+{
+    match error {
+        BindError::NoField => "NoField",
+        BindError::TypeMismatch => "TypeMismatch",
+        BindError::NarrowingCast => "NarrowingCast",
+        BindError::OutOfMemory => "OutOfMemory",
     }
 }

@@ -1,5 +1,5 @@
 //! The type of the rows of a file, as words spell it.
-ghost use Rattle.std.specs.Prelude.{◌≡◌, map, string_bytes, IfOk};
+ghost use Rattle.std.specs.Prelude.{◌≡◌, None, map, string_bytes, IfOk};
 ghost use Rattle.std.specs.Option.{option_map};
 ghost use Rattle.vx_data.specs.Dtype.{dtype_view};
 ghost use Rattle.vx_data.specs.TextsRead.{dtype_of_text};
@@ -30,19 +30,26 @@ impl Model for RowType {
     ghost view = { λ t. option_map dtype_view t.dtype };
 }
 
-/// The type that a word spells.
-#[tactic(auto, using(crate::proofs::RowTypes::spelled, crate::proofs::RowTypes::not_spelled))]
-fn spelled<'a>(alloc: Global, word: &str) -> Result<RowType, Failure<'a>>
-    ensures { Parses (option_map (λ d. Some d) (dtype_of_text word.now)) result }
-{
-    match DType::from_text(alloc, word) {
-        Ok(dtype) => Ok(RowType { dtype: Some(dtype) }),
-        Err(TextError::BadText) => Err(Failure::Usage),
-        Err(TextError::OutOfMemory) => Err(Failure::OutOfMemory),
-    }
-}
-
 impl RowType {
+    /// No type.
+    pub(crate) fn unknown() -> RowType
+        ensures { result ≡ None }
+    {
+        RowType { dtype: None }
+    }
+
+    /// The type that a word spells.
+    #[tactic(auto, using(crate::proofs::RowTypes::spelled, crate::proofs::RowTypes::not_spelled))]
+    pub(crate) fn spelled<'a>(alloc: Global, word: &str) -> Result<RowType, Failure<'a>>
+        ensures { Parses (option_map (λ d. Some d) (dtype_of_text word.now)) result }
+    {
+        match DType::from_text(alloc, word) {
+            Ok(dtype) => Ok(RowType { dtype: Some(dtype) }),
+            Err(TextError::BadText) => Err(Failure::Usage),
+            Err(TextError::OutOfMemory) => Err(Failure::OutOfMemory),
+        }
+    }
+
     /// The type that the values of an option spell, where it is given.
     pub(crate) fn parse<'a>(
         alloc: Global,
@@ -51,8 +58,8 @@ impl RowType {
         ensures { Parses (optional_dtype (option_map (λ v. map string_bytes v.now) values.entry)) result }
     {
         match values {
-            None => Ok(RowType { dtype: None }),
-            Some([word]) => spelled(alloc, word.as_str()),
+            None => Ok(RowType::unknown()),
+            Some([word]) => RowType::spelled(alloc, word.as_str()),
             Some(_) => Err(Failure::Usage),
         }
     }

@@ -2,3 +2,5 @@ pub mod OrderLemmas
 pub mod RowLemmas
 pub mod RowsLemmas
 pub mod ExactLemmas
+pub mod NameSteps
+pub mod WordSteps

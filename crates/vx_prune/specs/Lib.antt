@@ -2,3 +2,4 @@ pub mod Never
 pub mod Pruning
 pub mod Binders
 pub mod Readers
+pub mod PredicateWords

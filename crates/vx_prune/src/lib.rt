@@ -1,15 +1,21 @@
-//! Skips files in which no row can satisfy a predicate.
+//! Predicates as words spell them, and files that can be skipped, since no row satisfies one.
 #![tactic(auto)]
 
 mod binder;
 mod known;
+mod literal;
+mod node;
 mod order;
+mod predicate_words;
 mod pruning;
 mod stats_reader;
 
 pub use binder::FileStatsBinder;
+pub use predicate_words::read_predicate;
 pub use pruning::{can_prune_file_stats, one_comparison_is_exact, pruning_is_sound};
 pub use stats_reader::FileStatsLayoutReader;
 
 #[cfg(test)]
 mod tests;
+#[cfg(test)]
+mod word_tests;

@@ -1,8 +1,9 @@
 //! Writes segments one behind the other, and keeps where they lie.
-ghost use Rattle.std.specs.Prelude.{◌≡◌, ◌≤◌, ◌<◌, ◌^◌, ◌++◌, ◌%◌, ◌-◌, [], Err, IfOk, IfSome, IfNone, true, length, replicate};
+ghost use Rattle.std.specs.Prelude.{List, ◌≡◌, ◌≤◌, ◌<◌, ◌^◌, ◌++◌, ◌%◌, ◌-◌, [], Err, IfOk, IfSome, IfNone, true, length, replicate};
 ghost use Rattle.std.specs.List.{flat_map};
 ghost use Rattle.vx_base.specs.Checks.{Gives};
 ghost use Rattle.vx_base.specs.Streams.{SameSink};
+ghost use Rattle.vx_base.specs.declared.segment.SegmentSpec.{SegmentSpec};
 ghost use Rattle.vx_footer.specs.Serialized.{joined};
 ghost use Rattle.vx_footer.specs.PostscriptWritten.{FailsToWrite};
 ghost use Rattle.vx_footer.specs.declared.write_error.WriteError.TheVariants.{WriteFault};
@@ -14,14 +15,14 @@ use vx_base::{Alignment, ByteBuffer, SegmentId, SegmentSpec, Sink, SinkError, wr
 use vx_footer::{WriteError, padding};
 
 /// The most segments that a file may have.
-const MOST_SEGMENTS: usize = 4_294_967_295;
+pub(crate) const MOST_SEGMENTS: usize = 4_294_967_295;
 
 /// Where a segment is to lie: its place, how many zeros stand before it, and the offset behind it.
 #[derive(Clone, Copy, Debug, PartialEq, Eq)]
 pub(crate) struct Placing {
-    spec: SegmentSpec,
-    zeros: u64,
-    next: u64,
+    pub(crate) spec: SegmentSpec,
+    pub(crate) zeros: u64,
+    pub(crate) next: u64,
 }
 
 /// Writes segments one behind the other, each at a multiple of its alignment, and keeps where they lie.
@@ -75,7 +76,7 @@ fn zeros(alloc: Global, count: u64) -> Result<Vec<u8>, AllocError>
 }
 
 /// Zeros, and the bytes of buffers behind them.
-fn pieces_of<'a>(
+pub(crate) fn pieces_of<'a>(
     alloc: Global,
     zeros: &'a [u8],
     buffers: &'a [ByteBuffer],
@@ -90,13 +91,46 @@ fn pieces_of<'a>(
     Ok(pieces)
 }
 
-fn error_of(error: SinkError) -> WriteError
+pub(crate) fn error_of(error: SinkError) -> WriteError
     ensures { result ≡ error_of_sink error }
 {
     match error {
         SinkError::Failed => WriteError::WriteFault,
         SinkError::OutOfMemory => WriteError::OutOfMemory,
     }
+}
+
+/// Where the segment of buffers is to lie, behind so many segments and this offset.
+#[tactic(auto, unfolding(crate::specs::Sinks::place_checks))]
+pub(crate) fn place(count: usize, start: u64, buffers: &[ByteBuffer]) -> Result<Placing, WriteError>
+    ensures checked { (specs : List SegmentSpec) → count ≡ length specs → Gives FailsToWrite (λ _. tt) result (place_checks buffers.now (record { specs = specs; offset = start })) }
+    ensures spec { IfOk result (λ placing. placing.spec ≡ spec_of start buffers.now) }
+    ensures zeros { IfOk result (λ placing. placing.zeros ≡ zeros_before start buffers.now) }
+    ensures next { IfOk result (λ placing. placing.next ≡ behind start buffers.now) }
+    ensures aligned { IfOk result (λ placing. placing.spec.offset % 2 ^ placing.spec.alignment ≡ 0) }
+    ensures few { IfOk result (λ _. count < 2 ^ 32 - 1) }
+{
+    if count >= MOST_SEGMENTS {
+        return Err(WriteError::TooManySegments);
+    }
+    let Some(length) = size_of(buffers) else {
+        return Err(WriteError::SegmentTooLong);
+    };
+    let alignment = first_alignment(buffers);
+    let zeros = padding(alignment, start);
+    if u64::MAX - start < zeros + u64::from(length) {
+        return Err(WriteError::OffsetOverflow);
+    }
+    let offset = start + zeros;
+    Ok(Placing {
+        spec: SegmentSpec {
+            offset,
+            length,
+            alignment,
+        },
+        zeros,
+        next: offset + u64::from(length),
+    })
 }
 
 impl BufferedSegmentSink {
@@ -125,39 +159,6 @@ impl BufferedSegmentSink {
         self.offset
     }
 
-    /// Where the segment of buffers is to lie.
-    #[tactic(auto, unfolding(crate::specs::Sinks::place_checks))]
-    fn place(&self, buffers: &[ByteBuffer]) -> Result<Placing, WriteError>
-        ensures checked { Gives FailsToWrite (λ _. tt) result (place_checks buffers.now self.now) }
-        ensures spec { IfOk result (λ placing. placing.spec ≡ spec_of self.now.offset buffers.now) }
-        ensures zeros { IfOk result (λ placing. placing.zeros ≡ zeros_before self.now.offset buffers.now) }
-        ensures next { IfOk result (λ placing. placing.next ≡ behind self.now.offset buffers.now) }
-        ensures aligned { IfOk result (λ placing. placing.spec.offset % 2 ^ placing.spec.alignment ≡ 0) }
-        ensures few { IfOk result (λ _. length self.now.specs < 2 ^ 32 - 1) }
-    {
-        if self.specs.len() >= MOST_SEGMENTS {
-            return Err(WriteError::TooManySegments);
-        }
-        let Some(length) = size_of(buffers) else {
-            return Err(WriteError::SegmentTooLong);
-        };
-        let alignment = first_alignment(buffers);
-        let zeros = padding(alignment, self.offset);
-        if u64::MAX - self.offset < zeros + u64::from(length) {
-            return Err(WriteError::OffsetOverflow);
-        }
-        let offset = self.offset + zeros;
-        Ok(Placing {
-            spec: SegmentSpec {
-                offset,
-                length,
-                alignment,
-            },
-            zeros,
-            next: offset + u64::from(length),
-        })
-    }
-
     /// Writes the segment of buffers: zeros up to a multiple of the first one's alignment, and their bytes.
     /// Refuses more than 2^32 - 1 segments, a segment of more than 2^32 - 1 bytes, and an end past the offset
     /// 2^64 - 1, before any byte. After a refusal the segments are as before.
@@ -171,7 +172,7 @@ impl BufferedSegmentSink {
         ensures sound { (O.state out.old).never_fails ≡ true → (result ≡ Err WriteFault → ⊥) × ((O.state out.new).faults ≡ (O.state out.old).faults) }
         ensures same { SameSink (O.state out.old) (O.state out.new) }
     {
-        let placing = self.place(buffers)?;
+        let placing = place(self.specs.len(), self.offset, buffers)?;
         let zeros = zeros(alloc, placing.zeros)?;
         let pieces = pieces_of(alloc, &zeros, buffers)?;
         self.specs.reserve(1)?;

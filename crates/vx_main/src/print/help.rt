@@ -36,6 +36,9 @@ const CACHE: &[u8] = b"      --cache N     the N segments used last are kept, 1 
 const SIZES: &[u8] =
     b"  sizes NAME    prints how many bytes each field of the file NAME takes\n      --dtype D     the rows have the type D: the file's own is not read\n";
 
+const PRUNE: &[u8] =
+    b"  prune NAME P  prints whether the file NAME can be skipped, since no row of it\n                satisfies the predicate P; a --dtype stands in front of P\n";
+
 const DEMO: &[u8] =
     b"  demo V ..     serves a file of the values V, 1 to 8192 numbers of 32 bits,\n                which it writes to memory\n";
 
@@ -53,6 +56,9 @@ const POLL: &[u8] = b"  p NUMBER      polls the request of a number\n";
 const DROP: &[u8] = b"  d NUMBER      drops the request of a number\n";
 
 const DRIVE: &[u8] = b"  go            reads for each request that was polled and waits\n\n";
+
+const PREDICATES: &[u8] =
+    b"predicates, each node in front of its operands\n  root   field PATH   lit TYPE VALUE   cast TYPE P   add P P   eq|ne|lt|le|gt|ge P P\n  and P P   or P P   not P   isnull P   notnull P\n\n";
 
 const STATUSES: &[u8] = b"exit statuses, each with a line on standard error but 0\n";
 
@@ -83,6 +89,7 @@ pub(crate) fn put_help<S: Sink>(text: &mut TextOut, out: &mut S)
     text.word(out, READS);
     text.word(out, CACHE);
     text.word(out, SIZES);
+    text.word(out, PRUNE);
     text.word(out, DEMO);
     text.word(out, TEXTS);
     text.word(out, OPTIONS);
@@ -91,6 +98,7 @@ pub(crate) fn put_help<S: Sink>(text: &mut TextOut, out: &mut S)
     text.word(out, POLL);
     text.word(out, DROP);
     text.word(out, DRIVE);
+    text.word(out, PREDICATES);
     text.word(out, STATUSES);
     text.word(out, STATUSES_2);
     text.word(out, STATUSES_3);

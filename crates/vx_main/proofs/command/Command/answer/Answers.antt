@@ -11,3 +11,8 @@ pub returns-in-Sizes-clause-keeps : goal.returns-in-Sizes-clause-keeps
 returns-in-Sizes-clause-keeps g c =
     let source = g.I.Source.state c.args.input.now in
     subst (λ x. Keeps x source source (g.F.Opener.state c.args.files.now) (g.F.Opener.state c.answer-in-Sizes.new.files)) (sym c.in-Sizes.is) (c.answer-in-Sizes.ensures.keeps source)
+
+pub returns-in-Prune-clause-keeps : goal.returns-in-Prune-clause-keeps
+returns-in-Prune-clause-keeps g c =
+    let source = g.I.Source.state c.args.input.now in
+    subst (λ x. Keeps x source source (g.F.Opener.state c.args.files.now) (g.F.Opener.state c.answer-in-Prune.new.files)) (sym c.in-Prune.is) (c.answer-in-Prune.ensures.keeps source)

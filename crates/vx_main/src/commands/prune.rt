@@ -1,0 +1,136 @@
+//! `prune NAME ..`: prints whether a file can be skipped, since no row of it satisfies a predicate.
+ghost use Rattle.std.specs.Prelude.{◌≡◌, Some, map, string_bytes, IfOk};
+ghost use Rattle.vx_base.specs.Openers.{SameOpener};
+ghost use Rattle.vx_base.specs.Streams.{SourceState};
+ghost use Rattle.vx_main.specs.Command.{prune_of, prune_behind, prune_typed, typed_filter, prune_hints, Parses};
+ghost use Rattle.vx_main.specs.Outside.{Keeps, OpenerSteady};
+ghost use Rattle.vx_main.specs.Runs.{Gathers};
+ghost use Rattle.vx_main.specs.Sizes.{OpensFile};
+ghost use Rattle.vx_main.specs.declared.command.Command.TheVariants as commands;
+
+use crate::answer::Answer;
+use crate::command::Command;
+use crate::failure::Failure;
+use crate::filter::Filter;
+use crate::name::Name;
+use crate::reading::Reading;
+use crate::row_type::RowType;
+use crate::serving::serve_name;
+use std::alloc::{AllocError, Global};
+use vx_base::{NoCache, Opener};
+use vx_data::VortexSession;
+use vx_file::{ServeOptions, Served, can_prune};
+use vx_rows::BindError;
+
+/// The arguments of `prune`: the type of the rows, where it is known, and the predicate.
+#[derive(Drop)]
+pub struct Prune<'a> {
+    pub name: Name<'a>,
+    pub dtype: RowType,
+    pub filter: Filter<'a>,
+}
+
+impl<'a> Prune<'a> {
+    /// A name, the option behind it, and a predicate.
+    pub(crate) fn parse(alloc: Global, words: &'a [String]) -> Result<Command<'a>, Failure<'a>>
+        ensures { Parses (prune_of (map string_bytes words.now)) result }
+    {
+        let [word, rest @ ..] = words else {
+            return Err(Failure::Usage);
+        };
+        let Some(name) = Name::parse(word.as_str()) else {
+            return Err(Failure::Usage);
+        };
+        match Prune::behind(alloc, name, rest) {
+            Ok(prune) => Ok(Command::Prune(prune)),
+            Err(failure) => Err(failure),
+        }
+    }
+
+    /// The arguments of a name, and what stands behind it.
+    fn behind(alloc: Global, name: Name<'a>, words: &'a [String]) -> Result<Prune<'a>, Failure<'a>>
+        ensures { Parses (prune_behind (Some name.entry) (map string_bytes words.now)) result }
+    {
+        match words {
+            [option, rest @ ..] if option.as_str() == "--dtype" => Prune::typed(alloc, name, rest),
+            _ => Prune::filtered(alloc, name, RowType::unknown(), words),
+        }
+    }
+
+    /// The arguments of a name, a type and a predicate.
+    fn typed(alloc: Global, name: Name<'a>, words: &'a [String]) -> Result<Prune<'a>, Failure<'a>>
+        ensures { Parses (prune_typed name.entry (map string_bytes words.now)) result }
+    {
+        let [word, rest @ ..] = words else {
+            return Err(Failure::Usage);
+        };
+        match RowType::spelled(alloc, word.as_str()) {
+            Ok(dtype) => Prune::filtered(alloc, name, dtype, rest),
+            Err(failure) => Err(failure),
+        }
+    }
+
+    /// The arguments of a name, a type and a predicate.
+    fn filtered(
+        alloc: Global,
+        name: Name<'a>,
+        dtype: RowType,
+        words: &'a [String],
+    ) -> Result<Prune<'a>, Failure<'a>>
+        ensures { Parses (typed_filter name.entry (Some dtype) (map string_bytes words.now)) result }
+    {
+        match Filter::parse(alloc, words) {
+            Ok(filter) => Ok(Prune {
+                name,
+                dtype,
+                filter,
+            }),
+            Err(failure) => Err(failure),
+        }
+    }
+
+    /// How the file is opened.
+    fn options(&self, alloc: Global) -> Result<ServeOptions, AllocError>
+        ensures { IfOk result (λ options. options ≡ prune_hints self.now) }
+    {
+        let options = ServeOptions::new(VortexSession::new(alloc)?);
+        Ok(options.with_some_dtype(self.dtype.share(alloc)?))
+    }
+
+    /// Opens the file: serves no step from it.
+    fn open<F: Opener>(&self, alloc: Global, files: &mut F) -> Result<Served, Failure<'a>>
+        ensures cause { OpensFile (prune_hints self.now) self.now.name (F.state files.old) (F.state files.new) result }
+        ensures steady { OpenerSteady None self.now.name (F.state files.old) (F.state files.new) }
+        ensures same { SameOpener (F.state files.old) (F.state files.new) }
+    {
+        let options = self.options(alloc)?;
+        let mut cache = NoCache;
+        serve_name(
+            alloc,
+            files,
+            options,
+            &Reading::plain(),
+            &mut cache,
+            self.name.as_str(),
+            &[],
+        )
+    }
+
+    /// Whether the file can be skipped.
+    pub(crate) fn answer<F: Opener>(
+        &self,
+        alloc: Global,
+        files: &mut F,
+    ) -> Result<Answer, Failure<'a>>
+        ensures gathers { (source : SourceState) → Gathers (commands.Prune self.now) source source (F.state files.old) (F.state files.new) result }
+        ensures keeps { (source : SourceState) → Keeps (commands.Prune self.now) source source (F.state files.old) (F.state files.new) }
+    {
+        let served = self.open(alloc, files)?;
+        let filter = self.filter.predicate(alloc)?;
+        match can_prune(alloc, &served.footer, filter) {
+            Ok(skipped) => Ok(Answer::Pruned(skipped)),
+            Err(BindError::OutOfMemory) => Err(Failure::OutOfMemory),
+            Err(error) => Err(Failure::Unbound(error)),
+        }
+    }
+}

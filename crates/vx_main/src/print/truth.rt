@@ -1,0 +1,17 @@
+//! A truth value.
+ghost use Rattle.vx_main.specs.Outputs.{truth_text};
+ghost use Rattle.vx_main.specs.Text.{Adds};
+
+use crate::text::TextOut;
+use vx_base::Sink;
+
+/// Adds a truth value as a line.
+pub(crate) fn put_truth<S: Sink>(value: bool, text: &mut TextOut, out: &mut S)
+    ensures { Adds (truth_text value) text.old (S.state out.old) text.new (S.state out.new) }
+{
+    if value {
+        text.word(out, b"true\n");
+    } else {
+        text.word(out, b"false\n");
+    }
+}

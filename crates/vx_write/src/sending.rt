@@ -1,0 +1,129 @@
+//! Writes the chunks of leaves, each as one segment.
+ghost use Rattle.std.specs.Prelude.{◌≡◌, ◌<◌, ◌≤◌, ◌^◌, ◌∷◌, [], Ok, Err, true, OnOk, OnErr, IfOk, IfErr, length, map, string_bytes};
+ghost use Rattle.vx_footer.specs.declared.write_error.WriteError.TheVariants.{WriteFault, OutOfMemory};
+ghost use Rattle.vx_rows.specs.Rows.{column_view, rows_len};
+ghost use Rattle.vx_rows.specs.Encoded.{is_permitted, array_bytes};
+ghost use Rattle.vx_write.specs.Chunks.{chunk_view, chunks_view};
+ghost use Rattle.vx_write.specs.Placed.{Wrote, Failed, IsAlive};
+ghost use Rattle.vx_write.specs.Sending.{Coding, encoded_chunk, encoded_chunks, chunk_checks, chunks_checks};
+ghost use Rattle.vx_write.specs.Taken.{SinkCause, Checked};
+
+use crate::held_leaves::Chunk;
+use crate::output::Output;
+use std::alloc::Global;
+use std::marker::Model;
+use vx_base::{Alignment, ByteBuffer, Sink};
+use vx_footer::WriteError;
+use vx_rows::{EncodeError, encode_array};
+
+/// How chunks are encoded: by these ids of arrays, at this alignment.
+#[derive(Drop)]
+pub(crate) struct ChunkCoding {
+    ids: Vec<String>,
+    alignment: Alignment,
+}
+
+impl Model for ChunkCoding {
+    ghost use Rattle.std.specs.Prelude.{◌≤◌, length, map, string_bytes};
+    ghost use Rattle.vx_write.specs.Sending.{Coding};
+
+    ghost Value = { Coding };
+
+    ghost view = { λ c. record { ids = map string_bytes c.ids.items; alignment = c.alignment } };
+
+    ghost invariant = { λ c. length c.ids.items ≤ 65536 };
+}
+
+impl ChunkCoding {
+    /// A coding by these ids, of which there are at most 65,536, at this alignment.
+    pub(crate) fn new(ids: Vec<String>, alignment: Alignment) -> ChunkCoding
+        requires { length ids.items ≤ 65536 }
+        ensures { result ≡ record { ids = map string_bytes ids.items; alignment = alignment } }
+    {
+        ChunkCoding { ids, alignment }
+    }
+
+    /// The ids of arrays.
+    pub(crate) fn ids(&self) -> &[String]
+        ensures value { map string_bytes result.now ≡ self.now.ids }
+        ensures few { length result.now ≤ 65536 }
+    {
+        &self.ids
+    }
+
+    /// The alignment of segments.
+    pub(crate) fn alignment(&self) -> Alignment
+        ensures { result ≡ self.now.alignment }
+    {
+        self.alignment
+    }
+}
+
+/// The bytes of a chunk. Refuses a chunk with an array that is not permitted, and behind so many segments one of
+/// more than 2^32 - 1 bytes, or any where there are as many segments as there may be.
+fn encode(
+    alloc: Global,
+    coding: &ChunkCoding,
+    output: &Output,
+    chunk: &Chunk,
+) -> Result<ByteBuffer, WriteError>
+    ensures ok { IfOk result (λ b. b ≡ (encoded_chunk coding.now (chunk_view chunk.now)).buffer) }
+    ensures permitted { OnOk result (is_permitted coding.now.ids (column_view chunk.now.rows) ≡ true) }
+    ensures checked { IfErr result (λ e. (e ≡ OutOfMemory → ⊥) → chunk_checks coding.now output.now (chunk_view chunk.now) ≡ Err e) }
+    ensures fault { result ≡ Err WriteFault → ⊥ }
+{
+    match encode_array(alloc, &chunk.rows, coding.ids()) {
+        Ok(bytes) => Ok(bytes.aligned(coding.alignment())),
+        Err(EncodeError::NotPermitted) => Err(WriteError::NotPermitted),
+        Err(EncodeError::SegmentTooLong) => Err(output.too_long()),
+        Err(EncodeError::OutOfMemory) => Err(WriteError::OutOfMemory),
+    }
+}
+
+/// Writes a chunk behind those before it.
+fn write_chunk<S: Sink>(
+    alloc: Global,
+    out: &mut S,
+    coding: &ChunkCoding,
+    output: &mut Output,
+    chunk: &Chunk,
+) -> Result<(), WriteError>
+    requires { IsAlive output.old }
+    ensures ok { OnOk result (Wrote output.old (encoded_chunk coding.now (chunk_view chunk.now) ∷ []) (S.state out.old).gained output.new (S.state out.new).gained) }
+    ensures err { OnErr result (Failed output.old (encoded_chunk coding.now (chunk_view chunk.now) ∷ []) (S.state out.old).gained output.new (S.state out.new).gained) }
+    ensures checked { Checked result (chunk_checks coding.now output.old (chunk_view chunk.now)) }
+    ensures cause { SinkCause (S.state out.old) (S.state out.new) result }
+{
+    let buffer = match encode(alloc, coding, output, chunk) {
+        Ok(buffer) => buffer,
+        Err(error) => return Err(error),
+    };
+    let rows = chunk.rows.len() as u64;
+    match output.write_chunk(alloc, out, chunk.leaf, rows, &buffer) {
+        Ok(()) => Ok(()),
+        Err(error) => Err(error),
+    }
+}
+
+/// Writes chunks, one behind the other, behind those before them.
+pub(crate) fn write_chunks<S: Sink>(
+    alloc: Global,
+    out: &mut S,
+    coding: &ChunkCoding,
+    output: &mut Output,
+    chunks: &[Chunk],
+) -> Result<(), WriteError>
+    requires { IsAlive output.old }
+    ensures ok { OnOk result (Wrote output.old (encoded_chunks coding.now (chunks_view chunks.now)) (S.state out.old).gained output.new (S.state out.new).gained) }
+    ensures err { OnErr result (Failed output.old (encoded_chunks coding.now (chunks_view chunks.now)) (S.state out.old).gained output.new (S.state out.new).gained) }
+    ensures checked { Checked result (chunks_checks coding.now output.old (chunks_view chunks.now)) }
+    ensures cause { SinkCause (S.state out.old) (S.state out.new) result }
+{
+    for at in 0..chunks.len() {
+        match write_chunk(alloc, out, coding, output, &chunks[at]) {
+            Ok(()) => {}
+            Err(error) => return Err(error),
+        }
+    }
+    Ok(())
+}

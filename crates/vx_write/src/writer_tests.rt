@@ -1,0 +1,57 @@
+use super::file_writer::FileWriter;
+use super::*;
+use std::alloc::Global;
+use std::test::*;
+use vx_base::MemSink;
+use vx_data::{DType, PType, VortexSession};
+use vx_rows::Column;
+
+// A file of the numbers 1 to 4 in two pushes, which go to a sink that fails at these calls; whether a push or the
+// end was refused; and how many bytes the writer held back and counted before the end.
+fn written(alloc: Global, block: usize, fail: Vec<u64>) -> Result<(Vec<u8>, bool, u64, u64), Fail> {
+    let session = VortexSession::new(alloc)?;
+    let builder = WriteStrategyBuilder::from_session(alloc, &session)?;
+    let builder = builder.with_row_block_size(block.max(1));
+    let strategy = builder.with_data_block_target_bytes(None).build();
+    let options = VortexWriteOptions::new(alloc, session)?;
+    let options = options.with_file_statistics(Vec::new(alloc));
+    let options = options.with_strategy(strategy);
+    let mut out = MemSink::new(alloc, fail);
+    let dtype = DType::Int(PType::I32, false);
+    let mut writer = FileWriter::begin(alloc, options, dtype)?;
+    let first = Column::ints(alloc, PType::I32, &[Some(1), Some(2)], false)?;
+    let second = Column::ints(alloc, PType::I32, &[Some(3), Some(4)], false)?;
+    let first = writer.push(alloc, &mut out, &first).is_err();
+    let second = writer.push(alloc, &mut out, &second).is_err();
+    let held = writer.buffered_bytes();
+    let taken = writer.bytes_written();
+    let end = writer.finish(alloc, &mut out).is_err();
+    let refused = first || second || end;
+    Ok((out.into_bytes(), refused, held, taken))
+}
+
+#[test]
+fn writes_the_four_value_file(rt: HostRuntime) -> Result<(), Fail> {
+    let alloc = rt.alloc();
+    let mut out = MemSink::new(alloc, Vec::new(alloc));
+    write(alloc, &mut out, &[1, 2, 3, 4])?;
+    let (bytes, refused, held, taken) = written(alloc, 8192, Vec::new(alloc))?;
+    assert!(rt; !refused);
+    assert_eq!(rt; (held, taken), (16, 0));
+    assert_eq!(rt; bytes.as_slice(), out.into_bytes().as_slice());
+    Ok(())
+}
+
+#[test]
+fn a_failing_sink_holds_a_part(rt: HostRuntime) -> Result<(), Fail> {
+    let alloc = rt.alloc();
+    let (whole, _, _, taken) = written(alloc, 1, Vec::new(alloc))?;
+    assert_eq!(rt; taken, 4 + 4 + 6 + 2 + 6 + 2 + 6 + 2 + 6);
+    for call in 1..4 {
+        let (part, refused, _, _) = written(alloc, 1, vec![in alloc; call]?)?;
+        assert!(rt; refused);
+        assert!(rt; part.len() < whole.len());
+        assert_eq!(rt; whole.get(..part.len()).ok_or("longer")?, part.as_slice());
+    }
+    Ok(())
+}
