@@ -8,3 +8,8 @@ pub mod Opens
 pub mod Prepares
 pub mod ReaderOpenings
 pub mod Serves
+pub mod JoiningLemmas
+pub mod KeepingLemmas
+pub mod ReadingLemmas
+pub mod ScanningLemmas
+pub mod SplitLemmas

@@ -14,3 +14,8 @@ pub mod Scripts
 pub mod Serving
 pub mod Steps
 pub mod Tails
+pub mod Scans
+pub mod Kept
+pub mod Scanned
+pub mod Splits
+pub mod LayoutReaders

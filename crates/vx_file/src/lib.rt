@@ -1,7 +1,10 @@
-//! Opens a file from its tail and answers scripts of requests for its segments.
+//! Opens a file from its tail, answers scripts of requests for its segments, skips it, and gives its rows.
 #![tactic(auto)]
 
+mod column_joining;
 mod covered;
+mod layout_readers;
+mod layout_reading;
 mod memory;
 mod metadata;
 mod open_options;
@@ -15,20 +18,33 @@ mod prepared;
 mod pruning;
 mod reader_opening;
 mod reading;
+mod row_filter;
+mod scan;
+mod scan_builder;
+mod scan_error;
+#[cfg(test)]
+mod scan_tests;
 mod served;
 mod serving;
+mod splits;
+mod statistics;
 mod step;
 mod steps;
 #[cfg(test)]
 mod tests;
 mod vortex_file;
 
+pub use layout_readers::{FileLayoutReader, ScanFile};
 pub use memory::serve_in_memory;
 pub use metadata::MetadataValue;
 pub use open_options::{OpenOptionsSessionExt, VortexOpenOptions};
 pub use options::ServeOptions;
 pub use path_opening::OpenPathError;
 pub use pruning::can_prune;
+pub use row_filter::kept_rows_are_in_order;
+pub use scan::scan_rows;
+pub use scan_builder::ScanBuilder;
+pub use scan_error::ScanError;
 pub use served::{ServeError, Served};
 pub use serving::serve;
 pub use step::Step;

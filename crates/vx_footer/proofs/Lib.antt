@@ -20,3 +20,8 @@ pub mod PostscriptBack
 pub mod PaddingLemmas
 pub mod ValueLemmas
 pub mod RootLemmas
+pub mod ReadBackLayouts
+pub mod ReadBackStats
+pub mod ReadBackMetadata
+pub mod ReadBackTables
+pub mod ReadBackFiles

@@ -15,3 +15,4 @@ pub mod Placing
 pub mod Serializing
 pub mod Serializers
 pub mod WriteErrors
+pub mod ReadAgain

@@ -37,7 +37,7 @@ pub use footer::Footer;
 pub use placing::padding;
 pub use postscript::{Postscript, PostscriptMetadata, PostscriptSegment};
 pub use postscript_writing::written_postscript_is_read;
-pub use read_back::{bytes_are_asked_once, written_footer_is_read};
+pub use read_back::{bytes_are_asked_once, serialized_footer_is_read, written_footer_is_read};
 pub use serialize_error::SerializeError;
 pub use serializer::{FooterSerializer, Serialized};
 pub use sharing::may_be_shared;

@@ -25,12 +25,12 @@ use Rattle.vx_main.specs.declared.commands.sizes.Sizes as sizes
 use Rattle.vx_main.specs.declared.failure.Failure.{Failure}
 use Rattle.vx_main.specs.declared.failure.Failure.TheVariants as failures
 use Rattle.vx_main.specs.declared.input.TheConstants.{MOST_INPUT}
-use Rattle.vx_main.specs.Command.{reads_script, serve_hints, sizes_hints}
+use Rattle.vx_main.specs.Command.{reads_input, serve_hints, sizes_hints}
 use Rattle.vx_file.specs.Hints.{Hints, IsSizeOf}
 use Rattle.vx_file.specs.Ranges.{tail_ranges, opened}
 use Rattle.vx_file.specs.Serving.{asked}
 use Rattle.vx_main.specs.Demo.{Demonstrates, DemoCause}
-use Rattle.vx_main.specs.Failures.{LeavesFiles}
+use Rattle.vx_main.specs.Failures.{LeavesFiles, WantsLine}
 use Rattle.vx_main.specs.Input.{ReadsScript, ScriptCause, BadLine, BadLength}
 use Rattle.vx_main.specs.Outputs.{IsTold, IsTrueSize, wanted_status, input_status, script_status, file_status, grammar_status, missing_status, sizes_status, measured_status}
 use Rattle.vx_main.specs.Outside.{outside}
@@ -64,38 +64,40 @@ read-status before now steps (Some text) file e told h =
 
 -- ---- the script is wanting
 
-pub script-fails : (c : Command) (file : ℕ) (source source_now : SourceState) (files : OpenerState) (failure : Failure) → reads_script c ≡ true
+pub script-fails : (c : Command) (file : ℕ) (source source_now : SourceState) (files : OpenerState) (failure : Failure) → reads_input c ≡ true
+    → ((line : ℕ) → BadLine line source source_now → WantsLine c line source source_now)
     → ((out : SinkState) → wanted_status c (outside source files out) ≡ input_status source.rest file)
     → ((out : SinkState) → IsTold c (outside source files out) → is_some source.rest ≡ true)
     → LeavesFiles c files files → ScriptCause source source_now (Err failure) → Gathers c source source_now files files (Err failure)
-script-fails c file source source_now files failures.Usage reads wanted told leaves h = absurd h
-script-fails c file source source_now files failures.MissingSegment reads wanted told leaves h = absurd h
-script-fails c file source source_now files (failures.Unbound error) reads wanted told leaves h = absurd h
-script-fails c file source source_now files (failures.Line line) reads wanted told leaves h = record {
+script-fails c file source source_now files failures.Usage reads line wanted told leaves h = absurd h
+script-fails c file source source_now files failures.MissingSegment reads line wanted told leaves h = absurd h
+script-fails c file source source_now files (failures.Unbound error) reads line wanted told leaves h = absurd h
+script-fails c file source source_now files (failures.Unwritten error) reads line wanted told leaves h = absurd h
+script-fails c file source source_now files (failures.Line number) reads line wanted told leaves h = record {
   each = λ out. record {
-    fault = record { reads = reads; wants = h; files = refl; out = refl };
-    deserved = λ t. wanted out ∙ line-status line source source_now source.rest file refl (told out t) h;
+    fault = record { reads = reads; wants = line number h; files = refl; out = refl };
+    deserved = λ t. wanted out ∙ line-status number source source_now source.rest file refl (told out t) h;
   };
 }
-script-fails c file source source_now files (failures.Refused refusal) reads wanted told leaves h = absurd h
-script-fails c file source source_now files (failures.Read fault) reads wanted told leaves h = absurd h
-script-fails c file source source_now files failures.Input reads wanted told leaves h = record { each = λ out. record { reads = reads; wants = h; files = refl; out = refl } }
-script-fails c file source source_now files failures.Output reads wanted told leaves h = absurd h
-script-fails c file source source_now files (failures.Open name) reads wanted told leaves h = absurd h
-script-fails c file source source_now files failures.InputTooLong reads wanted told leaves h = record {
+script-fails c file source source_now files (failures.Refused refusal) reads line wanted told leaves h = absurd h
+script-fails c file source source_now files (failures.Read fault) reads line wanted told leaves h = absurd h
+script-fails c file source source_now files failures.Input reads line wanted told leaves h = record { each = λ out. record { reads = reads; wants = h; files = refl; out = refl } }
+script-fails c file source source_now files failures.Output reads line wanted told leaves h = absurd h
+script-fails c file source source_now files (failures.Open name) reads line wanted told leaves h = absurd h
+script-fails c file source source_now files failures.InputTooLong reads line wanted told leaves h = record {
   each = λ out. record {
     fault = record { reads = reads; wants = h; files = refl; out = refl };
     deserved = λ t. wanted out ∙ long-status source source_now source.rest file refl (told out t) h;
   };
 }
-script-fails c file source source_now files failures.OutOfMemory reads wanted told leaves h = record { each = λ out. record { files = leaves; out = inl refl } }
+script-fails c file source source_now files failures.OutOfMemory reads line wanted told leaves h = record { each = λ out. record { files = leaves; out = inl refl } }
 
 -- ---- serve
 
 pub serve-unread : (s : serve.Serve) (source source_now : SourceState) (files : OpenerState) (failure : Failure) → ScriptCause source source_now (Err failure)
     → Gathers (commands.Serve s) source source_now files files (Err failure)
 serve-unread s source source_now files failure h =
-    script-fails (commands.Serve s) (file_status (serve_hints s) (files.file s.name)) source source_now files failure refl (λ out. refl) (λ out told. told.0) (inl (record { asked = refl; returned = refl })) h
+    script-fails (commands.Serve s) (file_status (serve_hints s) (files.file s.name)) source source_now files failure refl (λ line h. h) (λ out. refl) (λ out told. told.0) (inl (record { asked = refl; returned = refl })) h
 
 refused-status : (hints : Hints) (refusal : OpenError) (o : Option (List ℕ)) → is_some o ≡ true → IsTrueSize hints.size o → ((file : List ℕ) → o ≡ Some file → IsSizeOf hints.size file → vx_grammar file hints.dtype ≡ Err refusal)
     → file_status hints o ≡ 4
@@ -107,6 +109,7 @@ pub serve-fails : (s : serve.Serve) (steps : List Step) (source source_now : Sou
 serve-fails s steps source source_now files files_now failures.Usage script h = absurd h
 serve-fails s steps source source_now files files_now failures.MissingSegment script h = absurd h
 serve-fails s steps source source_now files files_now (failures.Unbound error) script h = absurd h
+serve-fails s steps source source_now files files_now (failures.Unwritten error) script h = absurd h
 serve-fails s steps source source_now files files_now (failures.Line line) script h = absurd h
 serve-fails s steps source source_now files files_now (failures.Refused refusal) script h = record {
   each = λ out. record {
@@ -167,13 +170,14 @@ serve-unprinted s steps source source_now files files_now served h = record { ea
 pub demo-unread : (d : demo.Demo) (source source_now : SourceState) (files : OpenerState) (failure : Failure) → ScriptCause source source_now (Err failure)
     → Gathers (commands.Demo d) source source_now files files (Err failure)
 demo-unread d source source_now files failure h =
-    script-fails (commands.Demo d) (grammar_status (vx_grammar (written d.values) None)) source source_now files failure refl (λ out. refl) (λ out told. told) refl h
+    script-fails (commands.Demo d) (grammar_status (vx_grammar (written d.values) None)) source source_now files failure refl (λ line h. h) (λ out. refl) (λ out told. told) refl h
 
 pub demo-fails : (d : demo.Demo) (steps : List Step) (source source_now : SourceState) (files : OpenerState) (failure : Failure) → DemoCause d.values steps (Err failure)
     → Gathers (commands.Demo d) source source_now files files (Err failure)
 demo-fails d steps source source_now files failures.Usage h = absurd h
 demo-fails d steps source source_now files failures.MissingSegment h = absurd h
 demo-fails d steps source source_now files (failures.Unbound error) h = absurd h
+demo-fails d steps source source_now files (failures.Unwritten error) h = absurd h
 demo-fails d steps source source_now files (failures.Line line) h = absurd h
 demo-fails d steps source source_now files (failures.Refused refusal) h = absurd h
 demo-fails d steps source source_now files (failures.Read fault) h = absurd h

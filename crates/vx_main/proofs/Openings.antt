@@ -20,7 +20,7 @@ use Rattle.vx_footer.specs.declared.error.OpenError.{OpenError}
 use Rattle.vx_file.specs.Ranges.{opened as opened_ranges}
 use Rattle.vx_file.specs.Loading.{Drives}
 use Rattle.vx_file.specs.Plans.{Plan, plan_of, world_of}
-use Rattle.vx_file.specs.Serving.{Serves, ServedFrom, asked, faulty, SizeFault, TailFault, MetadataFault, RefusedFrom}
+use Rattle.vx_file.specs.Serving.{ServedFrom, asked, faulty, SizeFault, TailFault, MetadataFault, RefusedFrom}
 use Rattle.vx_file.specs.Scripts.{bad_replies, cache_failures}
 use Rattle.vx_main.specs.declared.failure.Failure.{Failure}
 use Rattle.vx_main.specs.declared.failure.Failure.TheVariants as failures
@@ -37,6 +37,7 @@ script-cause before now text (Err failures.Usage) read h = absurd h
 script-cause before now text (Err (failures.Refused refusal)) read h = absurd h
 script-cause before now text (Err failures.MissingSegment) read h = absurd h
 script-cause before now text (Err (failures.Unbound error)) read h = absurd h
+script-cause before now text (Err (failures.Unwritten error)) read h = absurd h
 script-cause before now text (Err (failures.Read fault)) read h = absurd h
 script-cause before now text (Err failures.Input) read h = absurd h
 script-cause before now text (Err failures.Output) read h = absurd h
@@ -123,6 +124,7 @@ file-cause hints chosen cache cache_now name script before now opened served (Er
 file-cause hints chosen cache cache_now name script before now opened served (Err (failures.Line line)) lent first last given read = absurd read
 file-cause hints chosen cache cache_now name script before now opened served (Err failures.MissingSegment) lent first last given read = absurd read
 file-cause hints chosen cache cache_now name script before now opened served (Err (failures.Unbound error)) lent first last given read = absurd read
+file-cause hints chosen cache cache_now name script before now opened served (Err (failures.Unwritten error)) lent first last given read = absurd read
 file-cause hints chosen cache cache_now name script before now opened served (Err failures.Usage) lent first last given read = absurd read
 file-cause hints chosen cache cache_now name script before now opened served (Err failures.Input) lent first last given read = absurd read
 file-cause hints chosen cache cache_now name script before now opened served (Err failures.Output) lent first last given read = absurd read

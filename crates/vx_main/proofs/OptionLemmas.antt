@@ -7,7 +7,7 @@ use Rattle.std.specs.Option.{option_map, option_map_or}
 use Rattle.std.specs.Str.{bytes_eq}
 use Rattle.vx_main.specs.Options.{OptionShape, shape_named, values_behind, value_count, values_after, values_of, is_option, options_after, are_options}
 
-abbrev texts : List (String Global) → List (List ℕ)
+abbrev pub texts : List (String Global) → List (List ℕ)
 texts words = map string_bytes words
 
 -- ---- words that are passed over
@@ -35,10 +35,10 @@ pub record IsNext (shapes : List OptionShape) (left : List (String Global)) (wor
   pub text_is : text ≡ string_bytes word
   pub count_is : count ≡ value_count shapes text (texts others)
 
-counted : (shapes : List OptionShape) (left : List (String Global)) (word : String Global) (others : List (String Global)) (text : List ℕ) (count : ℕ) → IsNext shapes left word others text count → count ≡ value_count shapes (string_bytes word) (texts others)
+pub counted : (shapes : List OptionShape) (left : List (String Global)) (word : String Global) (others : List (String Global)) (text : List ℕ) (count : ℕ) → IsNext shapes left word others text count → count ≡ value_count shapes (string_bytes word) (texts others)
 counted shapes left word others text count n = n.count_is ∙ ap (λ t. value_count shapes t (texts others)) n.text_is
 
-texts_behind : (shapes : List OptionShape) (left : List (String Global)) (word : String Global) (others behind : List (String Global)) (text : List ℕ) (count : ℕ) → IsNext shapes left word others text count → behind ≡ drop count others
+pub texts_behind : (shapes : List OptionShape) (left : List (String Global)) (word : String Global) (others behind : List (String Global)) (text : List ℕ) (count : ℕ) → IsNext shapes left word others text count → behind ≡ drop count others
     → texts behind ≡ drop (value_count shapes (string_bytes word) (texts others)) (texts others)
 texts_behind shapes left word others behind text count n is =
     ap texts (is ∙ ap (λ k. drop k others) (counted shapes left word others text count n)) ∙ sym (drop-map string_bytes (value_count shapes (string_bytes word) (texts others)) others)

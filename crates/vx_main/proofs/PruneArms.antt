@@ -1,5 +1,5 @@
 -- The answers of `prune`, from the file that it opens and the predicate.
-use Rattle.std.proofs.Common.{◌≡◌, ℕ, Bool, true, false, List, Option, Some, None, Result, Ok, Err, refl, sym, ap, ◌∙◌, inl, inr}
+use Rattle.std.proofs.Common.{◌≡◌, ℕ, Bool, true, List, Option, Some, None, Result, Ok, Err, refl, ap, ◌∙◌, inl, inr}
 use Rattle.std.specs.Prelude.{is_some}
 use Rattle.vx_base.specs.Openers.{OpenerState}
 use Rattle.vx_base.specs.Streams.{SourceState}

@@ -1,12 +1,12 @@
 -- What each status says, failure by failure.
-use Rattle.std.proofs.Common.{◌≡◌, ℕ, Option, Some, None, Result, Ok, Err, refl, sym, subst, arith, ◌⊎◌, inl, inr}
+use Rattle.std.proofs.Common.{◌≡◌, ℕ, Option, Some, None, Result, Ok, Err, refl, sym, ap, ◌∙◌, subst, arith, ◌⊎◌, inl, inr}
 use Rattle.vx_base.specs.Counts.{Rises}
 use Rattle.vx_base.specs.Streams.{SinkState}
 use Rattle.vx_main.specs.declared.command.Command.{Command}
 use Rattle.vx_main.specs.declared.failure.Failure.{Failure}
 use Rattle.vx_main.specs.declared.failure.Failure.TheVariants as failures
 use Rattle.vx_main.specs.Failures.{HasCause, status_of, message_of}
-use Rattle.vx_main.specs.Outputs.{wanted_status}
+use Rattle.vx_main.specs.Outputs.{refusal_status, wanted_status}
 use Rattle.vx_main.specs.Outside.{Outside, Steady}
 use Rattle.vx_main.specs.Runs.{Performs, Concludes, IsUnparsed, Reports, Runs, Prints}
 use Rattle.vx_main.specs.Statuses.{AllWell, EndsUnparsed, Means, Statuses}
@@ -26,7 +26,8 @@ row c before now err err_now failures.Usage h r = absurd h
 row c before now err err_now (failures.Line line) h r = record { means = (line, record { cause = h; reported = r }); complete = λ well. inl (sym (h.deserved well.told)); no_usage = λ e. cc }
 row c before now err err_now (failures.Refused refusal) h r = record { means = inl (refusal, record { cause = h; reported = r }); complete = λ well. inl (sym (h.deserved well.told)); no_usage = λ e. cc }
 row c before now err err_now failures.MissingSegment h r = record { means = inr (inl (record { cause = h; reported = r })); complete = λ well. inl (sym (h.deserved well.told)); no_usage = λ e. cc }
-row c before now err err_now (failures.Unbound error) h r = record { means = inr (inr (error, record { cause = h; reported = r })); complete = λ well. inl (sym (h.deserved well.told)); no_usage = λ e. cc }
+row c before now err err_now (failures.Unbound error) h r = record { means = inr (inr (inl (error, record { cause = h; reported = r }))); complete = λ well. inl (sym (h.deserved well.told)); no_usage = λ e. cc }
+row c before now err err_now (failures.Unwritten error) h r = record { means = inr (inr (inr (error, record { cause = h; reported = r }))); complete = λ well. inl (sym (h.deserved well.told)); no_usage = λ e. cc }
 row c before now err err_now (failures.Read fault) h r = record { means = (fault, record { cause = h; reported = r }); complete = λ well. absurd (stood before.files.read_faults now.files.read_faults (well.files h.name h.asks.named).reads h.rose); no_usage = λ e. cc }
 row c before now err err_now failures.Input h r = record { means = record { cause = h; reported = r }; complete = λ well. absurd (stood before.source.faults now.source.faults (well.input h.reads) h.wants); no_usage = λ e. cc }
 row c before now err err_now failures.Output h r = record { means = record { cause = h; reported = r }; complete = λ well. absurd (stood before.out.faults now.out.faults well.output h.rose); no_usage = λ e. cc }
@@ -35,7 +36,7 @@ row c before now err err_now failures.InputTooLong h r = record { means = record
 row c before now err err_now failures.OutOfMemory h r = record { means = record { cause = h; reported = r }; complete = λ well. inr refl; no_usage = λ e. cc }
 
 printed : (c : Command) (before now : Outside) (err err_now : SinkState) → Prints c before now → err_now ≡ err → Row c before now err err_now 0
-printed c before now err err_now h quiet = record { means = (h, quiet); complete = λ well. inl (sym (h.given.deserved well.told)); no_usage = λ e. cc }
+printed c before now err err_now h quiet = record { means = (h, quiet); complete = λ well. inl (sym (h.given.deserved well.told ∙ ap refusal_status h.whole)); no_usage = λ e. cc }
 
 performed : (c : Command) (before now : Outside) (err err_now : SinkState) (code : ℕ) (result : Result (Unit {0}) Failure) → Performs (Some c) before now result → Concludes result err err_now code → Row c before now err err_now code
 performed c before now err err_now code (Ok u) h k = subst (λ n. Row c before now err err_now n) (sym k.0) (printed c before now err err_now h k.1)

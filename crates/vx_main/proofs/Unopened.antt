@@ -1,5 +1,5 @@
 -- Commands that open the file of one name, touch no input and serve no step: where the file was not opened.
-use Rattle.std.proofs.Common.{◌≡◌, ℕ, true, false, List, [], ◌∷◌, Option, Some, None, Result, Ok, Err, refl, sym, ap, subst, inl}
+use Rattle.std.proofs.Common.{◌≡◌, ℕ, true, false, List, [], ◌∷◌, Option, Some, None, Err, refl, sym, subst, inl}
 use Rattle.std.specs.Prelude.{is_some}
 use Rattle.vx_base.specs.Openers.{OpenerState, AsksFor}
 use Rattle.vx_base.specs.Readers.{ReaderSettings}
@@ -10,7 +10,7 @@ use Rattle.vx_file.specs.Plans.{plan_of}
 use Rattle.vx_main.specs.declared.command.Command.{Command}
 use Rattle.vx_main.specs.declared.failure.Failure.{Failure}
 use Rattle.vx_main.specs.declared.failure.Failure.TheVariants as failures
-use Rattle.vx_main.specs.Command.{names_of, hints_of, reads_script, settings_of_command}
+use Rattle.vx_main.specs.Command.{names_of, hints_of, reads_input, settings_of_command}
 use Rattle.vx_main.specs.Failures.{LeavesFiles, ReadsInput}
 use Rattle.vx_main.specs.Outputs.{IsTold, wanted_status}
 use Rattle.vx_main.specs.Outside.{outside}
@@ -22,7 +22,7 @@ use Rattle.vx_main.specs.Sizes.{OpensFile}
 -- a command that opens the file of a name so
 pub record Opens (c : Command) (name : List ℕ) (source : SourceState) (files files_now : OpenerState) : Type 0 where
   pub named : names_of c ≡ name ∷ []
-  pub silent : reads_script c ≡ false
+  pub silent : reads_input c ≡ false
   pub chosen : (own : ReaderSettings) → settings_of_command c own ≡ settings_by plain_reading own
   pub unsized : (hints_of c).size ≡ None
   pub leaves : LeavesOpener name files files_now → LeavesFiles c files files_now
@@ -33,7 +33,7 @@ pub record Opens (c : Command) (name : List ℕ) (source : SourceState) (files f
 any_size : (size : Option ℕ) (file : List ℕ) → size ≡ None → IsSizeOf size file
 any_size size file none = subst (λ s. IsSizeOf s file) (sym none) tt
 
-untouched : (c : Command) (source : SourceState) → reads_script c ≡ false → ReadsInput (reads_script c) source source
+untouched : (c : Command) (source : SourceState) → reads_input c ≡ false → ReadsInput (reads_input c) source source
 untouched c source silent = subst (λ reads. ReadsInput reads source source) (sym silent) refl
 
 pub unopened : (c : Command) (name : List ℕ) (source : SourceState) (files files_now : OpenerState) (failure : Failure) → Opens c name source files files_now
@@ -51,6 +51,7 @@ unopened c name source files files_now (failures.Refused refusal) o h = record {
 }
 unopened c name source files files_now failures.MissingSegment o h = absurd h
 unopened c name source files files_now (failures.Unbound error) o h = absurd h
+unopened c name source files files_now (failures.Unwritten error) o h = absurd h
 unopened c name source files files_now (failures.Read fault) o h = record {
   each = λ out. record {
     name = name;

@@ -6,7 +6,7 @@ use Rattle.vx_base.specs.Readers.{ReaderSettings}
 use Rattle.vx_data.specs.Dtype.{Dtype}
 use Rattle.vx_data.specs.TextsRead.{dtype_of_text}
 use Rattle.vx_main.specs.declared.command.Command.{Command}
-use Rattle.vx_main.specs.declared.command.Command.TheVariants.{Help, Version, Serve, Demo, Sizes, Prune}
+use Rattle.vx_main.specs.declared.command.Command.TheVariants.{Help, Version, Serve, Demo, Sizes, Prune, Write}
 use Rattle.vx_file.specs.Hints.{Hints, no_hints}
 use Rattle.vx_main.specs.declared.commands.demo.TheConstants.{MOST_VALUES}
 use Rattle.vx_main.specs.declared.commands.serve.Serve as serve
@@ -17,6 +17,7 @@ use Rattle.vx_main.specs.declared.failure.Failure.{Failure}
 use Rattle.vx_main.specs.declared.failure.Failure.TheVariants as failures
 use Rattle.vx_main.specs.Numbers.{value_of}
 use Rattle.vx_main.specs.Options.{OptionShape, once, are_options, values_of, optional_number}
+use Rattle.vx_main.specs.WriteWords.{WriteValue, write_shapes, metadata_of}
 use Rattle.vx_main.specs.Reading.{ReadingValue, plain_reading, reading_of, settings_by}
 
 -- ---- names and values
@@ -62,7 +63,8 @@ optional_dtype (Some (word ∷ more ∷ words)) = None
 -- loaded, and how segments are read
 abbrev pub serve_shapes : List OptionShape
 serve_shapes =
-    once (codes "--size") 1 ∷ once (codes "--initial") 1 ∷ once (codes "--dtype") 1 ∷ once (codes "--meta") 0 ∷ once (codes "--distance") 1 ∷ once (codes "--max") 1 ∷ once (codes "--reads") 1 ∷ once (codes "--cache") 1 ∷ []
+    once (codes "--size") 1 ∷ once (codes "--initial") 1 ∷ once (codes "--dtype") 1 ∷ once (codes "--meta") 0
+    ∷ once (codes "--distance") 1 ∷ once (codes "--max") 1 ∷ once (codes "--reads") 1 ∷ once (codes "--cache") 1 ∷ []
 
 abbrev pub reading_by : Option (Option ℕ) → Option (Option ℕ) → Option (Option ℕ) → Option (Option ℕ) → Option ReadingValue
 reading_by None max reads kept = None
@@ -88,7 +90,8 @@ serve_behind None words = None
 serve_behind (Some name) words =
     if are_options serve_shapes words then
     served_by name (serve_number words (codes "--size")) (serve_number words (codes "--initial"))
-    (reading_by (serve_number words (codes "--distance")) (serve_number words (codes "--max")) (serve_number words (codes "--reads")) (serve_number words (codes "--cache")))
+    (reading_by (serve_number words (codes "--distance")) (serve_number words (codes "--max"))
+    (serve_number words (codes "--reads")) (serve_number words (codes "--cache")))
     (is_some (values_of serve_shapes (codes "--meta") words)) (optional_dtype (values_of serve_shapes (codes "--dtype") words))
     else None
 
@@ -103,7 +106,9 @@ sizes_shapes = once (codes "--dtype") 1 ∷ []
 abbrev pub sizes_behind : Option (List ℕ) → List (List ℕ) → Option sizes.Sizes
 sizes_behind None words = None
 sizes_behind (Some name) words =
-    if are_options sizes_shapes words then option_map (λ d. record { name = name; dtype = d }) (optional_dtype (values_of sizes_shapes (codes "--dtype") words)) else None
+    if are_options sizes_shapes words
+    then option_map (λ d. record { name = name; dtype = d }) (optional_dtype (values_of sizes_shapes (codes "--dtype") words))
+    else None
 
 abbrev pub sizes_of : List (List ℕ) → Option Command
 sizes_of [] = None
@@ -133,11 +138,46 @@ abbrev pub prune_of : List (List ℕ) → Option Command
 prune_of [] = None
 prune_of (word ∷ words) = option_map (λ p. Prune p) (prune_behind (name_of word) words)
 
+-- a number from one on, where it is given
+abbrev pub positive : Option (Option ℕ) → Option (Option ℕ)
+positive None = None
+positive (Some None) = Some None
+positive (Some (Some n)) = if nat_le 1 n then Some (Some n) else None
+
+abbrev pub written_by : Option (Option ℕ) → Option (Option ℕ) → Option (List (List ℕ)) → Bool → Bool → Bool → Option WriteValue
+written_by None target metadata excludes_dtype excludes_statistics is_second = None
+written_by (Some block) None metadata excludes_dtype excludes_statistics is_second = None
+written_by (Some block) (Some target) None excludes_dtype excludes_statistics is_second = None
+written_by (Some block) (Some target) (Some metadata) excludes_dtype excludes_statistics is_second = Some (record {
+  excludes_dtype = excludes_dtype;
+  excludes_statistics = excludes_statistics;
+  block = block;
+  target = target;
+  metadata = metadata;
+  is_second = is_second;
+})
+
+-- the number of an option of `write`, where it is given
+abbrev pub write_number : List (List ℕ) → List ℕ → Option (Option ℕ)
+write_number words option = optional_number (values_of write_shapes option words)
+
+abbrev pub has_option : List (List ℕ) → List ℕ → Bool
+has_option words option = is_some (values_of write_shapes option words)
+
+abbrev pub write_of : List (List ℕ) → Option Command
+write_of words =
+    if are_options write_shapes words then
+    option_map (λ w. Write w) (written_by (positive (write_number words (codes "--block"))) (write_number words (codes "--target")) (metadata_of words)
+    (has_option words (codes "--no-dtype")) (has_option words (codes "--no-stats")) (has_option words (codes "--v2")))
+    else None
+
 -- at least one value, and at most so many
 abbrev pub demo_of : List (List ℕ) → Option Command
-demo_of words = if nat_lt 0 (length words) && nat_le (length words) MOST_VALUES then option_map (λ values. Demo (record { values = values })) (all_values words) else None
+demo_of words =
+    if nat_lt 0 (length words) && nat_le (length words) MOST_VALUES
+    then option_map (λ values. Demo (record { values = values })) (all_values words) else None
 
--- `--help` and `--version` alone, `serve NAME ..`, `sizes NAME ..`, `prune NAME ..`, or `demo V ..`
+-- `--help` and `--version` alone, `serve NAME ..`, `sizes NAME ..`, `prune NAME ..`, `demo V ..`, or `write ..`
 abbrev pub command_of : List (List ℕ) → Option Command
 command_of [] = None
 command_of (word ∷ words) =
@@ -145,6 +185,7 @@ command_of (word ∷ words) =
     else if bytes_eq word (codes "demo") then demo_of words
     else if bytes_eq word (codes "sizes") then sizes_of words
     else if bytes_eq word (codes "prune") then prune_of words
+    else if bytes_eq word (codes "write") then write_of words
     else if bytes_eq word (codes "--help") then alone Help words
     else if bytes_eq word (codes "--version") then alone Version words
     else None
@@ -175,6 +216,7 @@ hints_of (Serve s) = serve_hints s
 hints_of (Demo d) = no_hints
 hints_of (Sizes s) = sizes_hints s
 hints_of (Prune p) = prune_hints p
+hints_of (Write w) = no_hints
 
 -- the settings with which it reads, by those of the reader
 abbrev pub settings_of_command : Command → ReaderSettings → ReaderSettings
@@ -184,6 +226,7 @@ settings_of_command (Serve s) own = settings_by s.reading own
 settings_of_command (Demo d) own = own
 settings_of_command (Sizes s) own = settings_by plain_reading own
 settings_of_command (Prune p) own = settings_by plain_reading own
+settings_of_command (Write w) own = own
 
 -- the names of the files that it opens
 abbrev pub names_of : Command → List (List ℕ)
@@ -193,12 +236,24 @@ names_of (Serve s) = s.name ∷ []
 names_of (Demo d) = []
 names_of (Sizes s) = s.name ∷ []
 names_of (Prune p) = p.name ∷ []
+names_of (Write w) = []
 
--- whether it reads a script from its input
-abbrev pub reads_script : Command → Bool
-reads_script Help = false
-reads_script Version = false
-reads_script (Serve s) = true
-reads_script (Demo d) = true
-reads_script (Sizes s) = false
-reads_script (Prune p) = false
+-- whether it reads its input
+abbrev pub reads_input : Command → Bool
+reads_input Help = false
+reads_input Version = false
+reads_input (Serve s) = true
+reads_input (Demo d) = true
+reads_input (Sizes s) = false
+reads_input (Prune p) = false
+reads_input (Write w) = true
+
+-- whether what it writes to the output is a file, as it comes
+abbrev pub writes_file : Command → Bool
+writes_file Help = false
+writes_file Version = false
+writes_file (Serve s) = false
+writes_file (Demo d) = false
+writes_file (Sizes s) = false
+writes_file (Prune p) = false
+writes_file (Write w) = true

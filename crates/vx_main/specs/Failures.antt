@@ -6,6 +6,7 @@ use Rattle.vx_base.specs.Streams.{SourceState, TookPrefix}
 use Rattle.vx_footer.specs.declared.error.OpenError.{OpenError}
 use Rattle.vx_footer.specs.Footers.{FooterContent}
 use Rattle.vx_footer.specs.Opening.{vx_grammar}
+use Rattle.vx_footer.specs.declared.write_error.WriteError.{WriteError}
 use Rattle.vx_rows.specs.declared.bind_error.BindError.{BindError}
 use Rattle.vx_rows.specs.Predicates.{Pred}
 use Rattle.vx_prune.specs.PredicateWords.{predicate_of}
@@ -16,16 +17,17 @@ use Rattle.vx_sched.specs.declared.fault.Place.TheVariants.{Size, Range}
 use Rattle.vx_file.specs.declared.step.Step.{Step}
 use Rattle.vx_main.specs.declared.answer.Answer.{Answer}
 use Rattle.vx_main.specs.declared.command.Command.{Command}
-use Rattle.vx_main.specs.declared.command.Command.TheVariants.{Help, Version, Serve, Demo, Sizes, Prune}
+use Rattle.vx_main.specs.declared.command.Command.TheVariants.{Help, Version, Serve, Demo, Sizes, Prune, Write}
 use Rattle.vx_main.specs.declared.failure.Failure.{Failure}
 use Rattle.vx_main.specs.declared.failure.Failure.TheVariants as failures
 use Rattle.vx_file.specs.Hints.{IsSizeOf}
 use Rattle.vx_file.specs.Plans.{plan_of}
-use Rattle.vx_main.specs.Command.{names_of, reads_script, hints_of, settings_of_command}
+use Rattle.vx_main.specs.Command.{names_of, reads_input, writes_file, hints_of, settings_of_command}
 use Rattle.vx_main.specs.Input.{ReadsScript, BadLine, BadLength}
-use Rattle.vx_main.specs.Outputs.{IsAnswer, text_of, Deserves, LacksSegment}
+use Rattle.vx_main.specs.Tables.{BadTableLine}
+use Rattle.vx_main.specs.Outputs.{IsAnswer, text_of, unwritten, Deserves, LacksSegment}
 use Rattle.vx_main.specs.Outside.{Outside}
-use Rattle.vx_main.specs.Refusals.{refusal_words, bind_error_words}
+use Rattle.vx_main.specs.Refusals.{refusal_words, bind_error_words, write_error_words}
 use Rattle.vx_main.specs.Render.{fault_words}
 use Rattle.vx_main.specs.Served.{GaveBack, LeavesOpener, RefusesFile, LacksFile}
 
@@ -37,6 +39,7 @@ status_of (failures.Line line) = 3
 status_of (failures.Refused refusal) = 4
 status_of failures.MissingSegment = 4
 status_of (failures.Unbound error) = 4
+status_of (failures.Unwritten error) = 4
 status_of (failures.Read fault) = 5
 status_of failures.Input = 6
 status_of failures.Output = 7
@@ -55,6 +58,7 @@ failure_words (failures.Line line) = codes "line " ++ decimal line
 failure_words (failures.Refused refusal) = refusal_words refusal
 failure_words failures.MissingSegment = codes "MissingSegment"
 failure_words (failures.Unbound error) = bind_error_words error
+failure_words (failures.Unwritten error) = write_error_words error
 failure_words (failures.Read fault) = codes "read " ++ read_words fault fault.place
 failure_words failures.Input = codes "input"
 failure_words failures.Output = codes "output"
@@ -68,17 +72,22 @@ message_of failure = codes "vx: " ++ failure_words failure ++ 10 ∷ []
 
 -- ---- causes
 
--- the script that the command reads from its input is wanting: no file was opened, and nothing was printed
-pub record ScriptFault (c : Command) (before now : Outside) (Wants : SourceState → SourceState → Type 0) : Type 0 where
-  pub reads : reads_script c ≡ true
+-- what the command reads from its input is wanting: no file was opened, and nothing was printed
+pub record InputFault (c : Command) (before now : Outside) (Wants : SourceState → SourceState → Type 0) : Type 0 where
+  pub reads : reads_input c ≡ true
   pub wants : Wants before.source now.source
   pub files : now.files ≡ before.files
   pub out : now.out ≡ before.out
 
--- a script that deserves this status
+-- an input that deserves this status
 pub record BadInput (c : Command) (before now : Outside) (code : ℕ) (Wants : SourceState → SourceState → Type 0) : Type 0 where
-  pub fault : ScriptFault c before now Wants
+  pub fault : InputFault c before now Wants
   pub deserved : Deserves c before code
+
+-- the first line that is no step of a script, or else spells neither the type nor a row
+abbrev pub WantsLine : Command → ℕ → SourceState → SourceState → Type 0
+WantsLine (Write w) line before now = BadTableLine line before now
+WantsLine _ line before now = BadLine line before now
 
 abbrev pub SourceFails : SourceState → SourceState → Type 0
 SourceFails before now = Rises 1 before.faults now.faults
@@ -91,7 +100,7 @@ ReadsInput false before now = now ≡ before
 -- the input was read, where the command reads it, and the one file of the command was asked for: nothing was printed
 pub record Asks (c : Command) (before now : Outside) (name : List ℕ) : Type 0 where
   pub named : names_of c ≡ name ∷ []
-  pub input : ReadsInput (reads_script c) before.source now.source
+  pub input : ReadsInput (reads_input c) before.source now.source
   pub asked : AsksFor name before.files now.files
   pub out : now.out ≡ before.out
 
@@ -145,6 +154,14 @@ pub record Misfit (c : Command) (before now : Outside) (error : BindError) : Typ
   pub misfits : (file : List ℕ) → before.files.file name ≡ Some file → MisfitsFile c file error
   pub deserved : Deserves c before 4
 
+-- a check refuses the file of the answer, and a prefix of it stands on the output
+pub record NotWritten (c : Command) (before now : Outside) (error : WriteError) : Type 0 where
+  pub answer : Answer
+  pub is : IsAnswer c before now answer
+  pub refused : unwritten answer ≡ Some error
+  pub took : TookPrefix (text_of answer) before.out.gained now.out.gained
+  pub deserved : Deserves c before 4
+
 -- a write of the answer's text failed, and a prefix of it stands on the output
 pub record OutputFault (c : Command) (before now : Outside) : Type 0 where
   pub answer : Answer
@@ -152,12 +169,13 @@ pub record OutputFault (c : Command) (before now : Outside) : Type 0 where
   pub took : TookPrefix (text_of answer) before.out.gained now.out.gained
   pub rose : Rises 1 before.out.faults now.out.faults
 
--- a write of the answer's text found no memory, and a prefix of it stands on the output
+-- A write of the answer's text found no memory, and a prefix of it stands on the output. Where that is a file, memory may have
+-- run out beside the output.
 pub record Unfinished (c : Command) (before now : Outside) : Type 0 where
   pub answer : Answer
   pub is : IsAnswer c before now answer
   pub took : TookPrefix (text_of answer) before.out.gained now.out.gained
-  pub rose : Rises 1 before.out.memory_faults now.out.memory_faults
+  pub rose : writes_file c ≡ false → Rises 1 before.out.memory_faults now.out.memory_faults
 
 -- what a command without memory leaves of the files: the one that it opens was asked for at most once, and
 -- its reader was given back
@@ -168,6 +186,7 @@ LeavesFiles (Serve s) before now = LeavesOpener s.name before now
 LeavesFiles (Demo d) before now = now ≡ before
 LeavesFiles (Sizes s) before now = LeavesOpener s.name before now
 LeavesFiles (Prune p) before now = LeavesOpener p.name before now
+LeavesFiles (Write w) before now = now ≡ before
 
 -- memory ran out
 pub record Stopped (c : Command) (before now : Outside) : Type 0 where
@@ -177,13 +196,14 @@ pub record Stopped (c : Command) (before now : Outside) : Type 0 where
 -- the cause of each failure of a command
 abbrev pub HasCause : Command → Outside → Outside → Failure → Type 0
 HasCause c before now failures.Usage = ⊥
-HasCause c before now (failures.Line line) = BadInput c before now 3 (BadLine line)
+HasCause c before now (failures.Line line) = BadInput c before now 3 (WantsLine c line)
 HasCause c before now failures.InputTooLong = BadInput c before now 9 BadLength
-HasCause c before now failures.Input = ScriptFault c before now SourceFails
+HasCause c before now failures.Input = InputFault c before now SourceFails
 HasCause c before now (failures.Open name) = OpenFault c before now name
 HasCause c before now (failures.Read fault) = ReadFault c before now fault
 HasCause c before now (failures.Refused refusal) = Refusal c before now refusal
 HasCause c before now failures.MissingSegment = Lacking c before now
 HasCause c before now (failures.Unbound error) = Misfit c before now error
+HasCause c before now (failures.Unwritten error) = NotWritten c before now error
 HasCause c before now failures.Output = OutputFault c before now
 HasCause c before now failures.OutOfMemory = Stopped c before now

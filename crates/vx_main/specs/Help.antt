@@ -2,7 +2,7 @@
 use Rattle.std.specs.Prelude.{ℕ, List, ◌++◌, codes}
 
 abbrev pub what_help : List ℕ
-what_help = codes "vx serves the segments of columnar files and tells how large their fields are.\n\n"
+what_help = codes "vx serves the segments of columnar files, tells how large fields are, skips\nfiles, and writes them.\n\n"
 
 abbrev pub usage_help : List ℕ
 usage_help = codes "usage: vx COMMAND\n\n"
@@ -29,7 +29,7 @@ abbrev pub meta_help : List ℕ
 meta_help = codes "      --meta        the values of the metadata are read and printed\n"
 
 abbrev pub distance_help : List ℕ
-distance_help = codes "      --distance D  reads at most D bytes apart are merged, and --max M: into one\n                    of at most M bytes\n"
+distance_help = codes "      --distance D  reads at most D bytes apart are merged, with --max M into\n                    one of at most M bytes\n"
 
 abbrev pub reads_help : List ℕ
 reads_help = codes "      --reads K     one call asks for at most K ranges, 1 to 1024\n"
@@ -46,11 +46,23 @@ prune_help = codes "  prune NAME P  prints whether the file NAME can be skipped,
 abbrev pub demo_help : List ℕ
 demo_help = codes "  demo V ..     serves a file of the values V, 1 to 8192 numbers of 32 bits,\n                which it writes to memory\n"
 
+abbrev pub write_help : List ℕ
+write_help = codes "  write         reads a type and rows, a line each, from standard input, and\n                writes their file to standard output\n"
+
+abbrev pub write_options_help : List ℕ
+write_options_help = codes "      --no-dtype    the type is left out; with --no-stats the statistics are\n"
+
+abbrev pub write_blocks_help : List ℕ
+write_blocks_help = codes "      --block N     blocks have N rows, 8192 where it is not said\n      --target N    blocks are gathered to N bytes, 1048576 where it is not said\n"
+
+abbrev pub write_more_help : List ℕ
+write_more_help = codes "      --meta K HEX  bytes in hexadecimal under the key K of the metadata\n      --v2          the file is of the second version\n"
+
 abbrev pub texts_help : List ℕ
 texts_help = codes "  --help        prints this text\n  --version     prints the version\n"
 
 abbrev pub options_help : List ℕ
-options_help = codes "options stand behind NAME in any order, each at most once\n\n"
+options_help = codes "options stand in any order, each at most once but --meta of write\n\n"
 
 abbrev pub script_help : List ℕ
 script_help = codes "script, a step a line\n"
@@ -68,7 +80,10 @@ abbrev pub drive_help : List ℕ
 drive_help = codes "  go            reads for each request that was polled and waits\n\n"
 
 abbrev pub predicates_help : List ℕ
-predicates_help = codes "predicates, each node in front of its operands\n  root   field PATH   lit TYPE VALUE   cast TYPE P   add P P   eq|ne|lt|le|gt|ge P P\n  and P P   or P P   not P   isnull P   notnull P\n\n"
+predicates_help = codes "predicates, each node in front of its operands\n"
+
+abbrev pub nodes_help : List ℕ
+nodes_help = codes "  root   field PATH   lit TYPE VALUE   cast TYPE P   add P P   eq|ne|lt|le|gt|ge P P\n  and P P   or P P   not P   isnull P   notnull P\n\n"
 
 abbrev pub statuses_help : List ℕ
 statuses_help = codes "exit statuses, each with a line on standard error but 0\n"
@@ -77,7 +92,7 @@ abbrev pub statuses_2_help : List ℕ
 statuses_2_help = codes "  0  all was printed                    6  the input could not be read\n  2  the arguments are no command       7  the output could not be written\n"
 
 abbrev pub statuses_3_help : List ℕ
-statuses_3_help = codes "  3  a line of the script is no step    8  the file could not be opened\n  4  the file is refused                9  the input is too long\n"
+statuses_3_help = codes "  3  a line of the input is wrong       8  the file could not be opened\n  4  the file is refused                9  the input is too long\n"
 
 abbrev pub statuses_4_help : List ℕ
 statuses_4_help = codes "  5  the file could not be read        70  out of memory\n\n"
@@ -87,5 +102,8 @@ example_help = codes "example\n  printf 'r 0\\np 0\\n' | vx demo 1 2 3 4\n"
 
 abbrev pub help_text : List ℕ
 help_text =
-    what_help ++ usage_help ++ commands_help ++ serve_help ++ serve_more_help ++ size_help ++ initial_help ++ dtype_help ++ meta_help ++ distance_help ++ reads_help ++ cache_help ++ sizes_help ++ prune_help ++ demo_help ++ texts_help ++ options_help
-    ++ script_help ++ register_help ++ poll_help ++ drop_help ++ drive_help ++ predicates_help ++ statuses_help ++ statuses_2_help ++ statuses_3_help ++ statuses_4_help ++ example_help
+    what_help ++ usage_help ++ commands_help ++ serve_help ++ serve_more_help ++ size_help ++ initial_help ++ dtype_help
+    ++ meta_help ++ distance_help ++ reads_help ++ cache_help ++ sizes_help ++ prune_help ++ demo_help ++ write_help
+    ++ write_options_help ++ write_blocks_help ++ write_more_help ++ texts_help ++ options_help ++ script_help ++ register_help ++ poll_help
+    ++ drop_help ++ drive_help ++ predicates_help ++ nodes_help ++ statuses_help ++ statuses_2_help ++ statuses_3_help ++ statuses_4_help
+    ++ example_help

@@ -4,6 +4,7 @@ pub mod Failures
 pub mod Help
 pub mod InMemory
 pub mod Input
+pub mod MetadataWords
 pub mod Numbers
 pub mod Options
 pub mod Outputs
@@ -11,6 +12,7 @@ pub mod Outside
 pub mod Reading
 pub mod Refusals
 pub mod Render
+pub mod RowsFiles
 pub mod Runs
 pub mod Script
 pub mod Served
@@ -18,4 +20,6 @@ pub mod Sizes
 pub mod SizesText
 pub mod Statuses
 pub mod Streams
+pub mod Tables
 pub mod Text
+pub mod WriteWords

@@ -17,6 +17,10 @@ pub record OptionShape : Type 0 where
 abbrev pub once : List ℕ → ℕ → OptionShape
 once word values = record { word = word; values = values; repeats = false; is_last = false }
 
+-- an option that has so many values and may be given again
+abbrev pub repeated : List ℕ → ℕ → OptionShape
+repeated word values = record { word = word; values = values; repeats = true; is_last = false }
+
 -- the option that a word names
 abbrev pub shape_named : List OptionShape → List ℕ → Option OptionShape
 shape_named shapes word = find (λ s. bytes_eq s.word word) shapes

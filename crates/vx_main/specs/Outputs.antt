@@ -10,11 +10,12 @@ use Rattle.vx_file.specs.declared.served.Served.{Served}
 use Rattle.vx_prune.specs.PredicateWords.{predicate_of}
 use Rattle.vx_rows.specs.declared.bind_error.BindError.{BindError}
 use Rattle.vx_rows.specs.Predicates.{Pred}
+use Rattle.vx_footer.specs.declared.write_error.WriteError.{WriteError}
 use Rattle.vx_write.specs.Column.{written}
 use Rattle.vx_main.specs.declared.answer.Answer.{Answer}
 use Rattle.vx_main.specs.declared.answer.Answer.TheVariants as answers
 use Rattle.vx_main.specs.declared.command.Command.{Command}
-use Rattle.vx_main.specs.declared.command.Command.TheVariants.{Help, Version, Serve, Demo, Sizes, Prune}
+use Rattle.vx_main.specs.declared.command.Command.TheVariants.{Help, Version, Serve, Demo, Sizes, Prune, Write}
 use Rattle.vx_main.specs.declared.input.TheConstants.{MOST_INPUT}
 use Rattle.vx_file.specs.Hints.{Hints, IsSizeOf}
 use Rattle.vx_file.specs.Plans.{plan_of}
@@ -30,6 +31,9 @@ use Rattle.vx_main.specs.Render.{render_text}
 use Rattle.vx_main.specs.Script.{script_of}
 use Rattle.vx_main.specs.Served.{ServesFile, GaveBack, GivesBack}
 use Rattle.vx_main.specs.SizesText.{sizes_text}
+use Rattle.vx_main.specs.RowsFiles.{bytes_of, refusal_of}
+use Rattle.vx_main.specs.Tables.{TableValue, table_of, ReadsTable}
+use Rattle.vx_main.specs.WriteWords.{WriteValue}
 
 -- ---- texts
 
@@ -47,6 +51,30 @@ text_of answers.Version = version_text
 text_of (answers.Served served) = render_text served
 text_of (answers.Sizes sizes) = sizes_text sizes.entries
 text_of (answers.Pruned skipped) = truth_text skipped
+text_of (answers.File f) = bytes_of f.arguments f.table
+
+-- why the file of an answer is not written whole, where a check refuses it
+abbrev pub unwritten : Answer → Option WriteError
+unwritten answers.Help = None
+unwritten answers.Version = None
+unwritten (answers.Served served) = None
+unwritten (answers.Sizes sizes) = None
+unwritten (answers.Pruned skipped) = None
+unwritten (answers.File f) = refusal_of f.arguments f.table
+
+-- whether an answer is no file
+abbrev pub is_text : Answer → Bool
+is_text answers.Help = true
+is_text answers.Version = true
+is_text (answers.Served served) = true
+is_text (answers.Sizes sizes) = true
+is_text (answers.Pruned skipped) = true
+is_text (answers.File f) = false
+
+-- the status that an answer brings
+abbrev pub refusal_status : Option WriteError → ℕ
+refusal_status None = 0
+refusal_status (Some e) = 4
 
 -- a fixed text, for which nothing was read and no file was opened
 pub record IsFixed (fixed : Answer) (before now : Outside) (answer : Answer) : Type 0 where
@@ -63,7 +91,8 @@ pub record IsServed (hints : Hints) (reading : ReadingValue) (name : List ℕ) (
   pub asked : AsksFor name before.files now.files
   pub back : GaveBack name before.files now.files
   pub serves : (file : List ℕ) → before.files.file name ≡ Some file → IsSizeOf hints.size file →
-      ServesFile (plan_of hints file) hints.metadata (settings_by reading (before.files.settings name)) (new_cache reading.kept) file name steps before.files now.files served
+      ServesFile (plan_of hints file) hints.metadata (settings_by reading (before.files.settings name)) (new_cache reading.kept) file name steps
+      before.files now.files served
 
 -- the script of the input was served from the file of some values, and no file was opened
 pub record IsDemonstrated (values : List ℤ) (before now : Outside) (answer : Answer) : Type 0 where
@@ -118,6 +147,15 @@ pub record IsJudged (hints : Hints) (words : List (List ℕ)) (name : List ℕ) 
   pub back : GaveBack name before.files now.files
   pub judges : (file : List ℕ) → before.files.file name ≡ Some file → Judges hints words file name before.files now.files (Ok skipped)
 
+-- ---- a file
+
+-- the file of the rows that the input spells, and no file was opened
+pub record IsFile (arguments : WriteValue) (before now : Outside) (answer : Answer) : Type 0 where
+  pub table : TableValue
+  pub is : answer ≡ answers.File (record { arguments = arguments; table = table })
+  pub reads : ReadsTable before.source now.source table
+  pub files : now.files ≡ before.files
+
 -- what each command answers
 abbrev pub IsAnswer : Command → Outside → Outside → Answer → Type 0
 IsAnswer Help before now answer = IsFixed answers.Help before now answer
@@ -126,6 +164,7 @@ IsAnswer (Serve s) before now answer = IsServed (serve_hints s) s.reading s.name
 IsAnswer (Demo d) before now answer = IsDemonstrated d.values before now answer
 IsAnswer (Sizes s) before now answer = IsMeasured (sizes_hints s) s.name before now answer
 IsAnswer (Prune p) before now answer = IsJudged (prune_hints p) p.filter p.name before now answer
+IsAnswer (Write w) before now answer = IsFile w before now answer
 
 -- ---- the status that a command deserves
 
@@ -172,6 +211,15 @@ abbrev pub judged_status : Hints → List (List ℕ) → Option (List ℕ) → �
 judged_status hints words None = 0
 judged_status hints words (Some file) = pruned_status words (vx_grammar file hints.dtype)
 
+-- the status of the rows of an input, where they can be read
+abbrev pub table_status : WriteValue → Result TableValue ℕ → ℕ
+table_status w (Ok t) = refusal_status (refusal_of w t)
+table_status w (Err line) = 3
+
+abbrev pub rows_status : WriteValue → Option (List ℕ) → ℕ
+rows_status w None = 0
+rows_status w (Some text) = if nat_lt MOST_INPUT (length text) then 9 else table_status w (table_of text)
+
 -- the status that the words, the input and the file deserve
 abbrev pub wanted_status : Command → Outside → ℕ
 wanted_status Help before = 0
@@ -180,6 +228,7 @@ wanted_status (Serve s) before = input_status before.source.rest (file_status (s
 wanted_status (Demo d) before = input_status before.source.rest (grammar_status (vx_grammar (written d.values) None))
 wanted_status (Sizes s) before = measured_status (sizes_hints s) (before.files.file s.name)
 wanted_status (Prune p) before = judged_status (prune_hints p) p.filter (before.files.file p.name)
+wanted_status (Write w) before = rows_status w before.source.rest
 
 -- a size that is supplied is that of the file, where the file is told
 abbrev pub IsTrueSize : Option ℕ → Option (List ℕ) → Type 0
@@ -194,6 +243,7 @@ IsTold (Serve s) before = (is_some before.source.rest ≡ true) × (is_some (bef
 IsTold (Demo d) before = is_some before.source.rest ≡ true
 IsTold (Sizes s) before = is_some (before.files.file s.name) ≡ true
 IsTold (Prune p) before = is_some (before.files.file p.name) ≡ true
+IsTold (Write w) before = is_some before.source.rest ≡ true
 
 abbrev pub Deserves : Command → Outside → ℕ → Type 0
 Deserves c before code = IsTold c before → wanted_status c before ≡ code

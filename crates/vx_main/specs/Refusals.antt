@@ -3,6 +3,8 @@ use Rattle.std.specs.Prelude.{ℕ, List, codes}
 use Rattle.vx_footer.specs.declared.error.OpenError.{OpenError}
 use Rattle.vx_footer.specs.declared.error.OpenError.TheVariants as refusals
 use Rattle.vx_footer.specs.declared.error.Which.TheVariants as which
+use Rattle.vx_footer.specs.declared.write_error.WriteError.{WriteError}
+use Rattle.vx_footer.specs.declared.write_error.WriteError.TheVariants as write_error
 use Rattle.vx_rows.specs.declared.bind_error.BindError.{BindError}
 use Rattle.vx_rows.specs.declared.bind_error.BindError.TheVariants as unbound
 
@@ -38,3 +40,22 @@ bind_error_words unbound.NoField = codes "NoField"
 bind_error_words unbound.TypeMismatch = codes "TypeMismatch"
 bind_error_words unbound.NarrowingCast = codes "NarrowingCast"
 bind_error_words unbound.OutOfMemory = codes "OutOfMemory"
+
+-- the check that refuses a file that is written
+abbrev pub write_error_words : WriteError → List ℕ
+write_error_words write_error.TooManyMetadata = codes "TooManyMetadata"
+write_error_words write_error.EmptyKey = codes "EmptyKey"
+write_error_words write_error.LongKey = codes "LongKey"
+write_error_words write_error.NotPermitted = codes "NotPermitted"
+write_error_words write_error.TooDeep = codes "TooDeep"
+write_error_words write_error.TooManyTables = codes "TooManyTables"
+write_error_words write_error.ChunkDType = codes "ChunkDType"
+write_error_words write_error.RowsOverflow = codes "RowsOverflow"
+write_error_words write_error.ChunkFault = codes "ChunkFault"
+write_error_words write_error.SegmentTooLong = codes "SegmentTooLong"
+write_error_words write_error.TooManySegments = codes "TooManySegments"
+write_error_words write_error.OffsetOverflow = codes "OffsetOverflow"
+write_error_words write_error.WriteFault = codes "WriteFault"
+write_error_words write_error.WriterFailed = codes "WriterFailed"
+write_error_words write_error.DuplicateKey = codes "DuplicateKey"
+write_error_words write_error.OutOfMemory = codes "OutOfMemory"

@@ -1,5 +1,5 @@
 -- What serving the file of a name by a script gives.
-use Rattle.std.specs.Prelude.{◌≡◌, ℕ, ◌+◌, Bool, true, List, [], ◌∷◌, ◌++◌, Option, Some, None, Result, Ok, Err, ◌⊎◌}
+use Rattle.std.specs.Prelude.{◌≡◌, ℕ, ◌+◌, Bool, true, List, [], ◌∷◌, ◌++◌, Option, Some, Result, Ok, Err, ◌⊎◌}
 use Rattle.std.specs.Option.{option_map}
 use Rattle.vx_base.specs.Asking.{Log}
 use Rattle.vx_base.specs.Counts.{Rises}
@@ -28,9 +28,11 @@ use Rattle.vx_main.specs.declared.failure.Failure.TheVariants as failures
 -- ---- by a reader
 
 abbrev pub ReaderCause : Hints → List ℕ → List Step → ReaderState → ReaderState → CacheState → CacheState → Result Served Failure → Type 0
-ReaderCause hints file script before now cache cache_now (Ok served) = ServedFrom (plan_of hints file) hints.metadata file script before now cache cache_now served
+ReaderCause hints file script before now cache cache_now (Ok served) =
+    ServedFrom (plan_of hints file) hints.metadata file script before now cache cache_now served
 ReaderCause hints file script before now cache cache_now (Err (failures.Read fault)) =
-    SizeFault (plan_of hints file) before now fault ⊎ TailFault (plan_of hints file) before now fault ⊎ MetadataFault (plan_of hints file) before now cache_now (cause.Fault fault)
+    SizeFault (plan_of hints file) before now fault ⊎ TailFault (plan_of hints file) before now fault
+    ⊎ MetadataFault (plan_of hints file) before now cache_now (cause.Fault fault)
 ReaderCause hints file script before now cache cache_now (Err (failures.Refused refusal)) = RefusedFrom (plan_of hints file) before now refusal
 ReaderCause hints file script before now cache cache_now (Err failures.OutOfMemory) = Unit {0}
 ReaderCause hints file script before now cache cache_now (Err _) = ⊥
@@ -54,7 +56,8 @@ pub record GivesBack (name : List ℕ) (before now : OpenerState) (ranges : Log)
 -- the grammar, the metadata was loaded before, where that is asked for, a history answers the script, one reply for each
 -- step, and the reader had been asked exactly for the ranges of opening, the spans of the metadata and those of the
 -- drives. The cache never failed.
-pub record ServesFile (plan : Plan) (include : Bool) (settings : ReaderSettings) (cache : CacheState) (file name : List ℕ) (script : List Step) (before now : OpenerState) (served : Served) : Type 0 where
+pub record ServesFile (plan : Plan) (include : Bool) (settings : ReaderSettings) (cache : CacheState) (file name : List ℕ)
+    (script : List Step) (before now : OpenerState) (served : Served) : Type 0 where
   pub cache_now : CacheState
   pub serves : Serves plan include file script settings cache cache_now served
   pub cache_good : cache_failures served.replies ≡ 0
@@ -114,16 +117,19 @@ LeavesOpener name before now = AsksNothing before now ⊎ AskedAndBack name befo
 
 -- a file could not be read: its size, an opening range, or the metadata
 abbrev pub LacksFile : Plan → ReaderSettings → List ℕ → Fault → OpenerState → OpenerState → Type 0
-LacksFile plan settings name fault before now = LacksSize plan name fault before now ⊎ LacksTail plan name fault before now ⊎ LacksValue plan settings name fault before now
+LacksFile plan settings name fault before now =
+    LacksSize plan name fault before now ⊎ LacksTail plan name fault before now ⊎ LacksValue plan settings name fault before now
 
 -- what serving the file of a name gave has its cause
 abbrev pub FileCause : Hints → (ReaderSettings → ReaderSettings) → CacheState → List ℕ → List Step → OpenerState → OpenerState → Result Served Failure → Type 0
 FileCause hints chosen cache name script before now (Ok served) = AsksFor name before now × GaveBack name before now ×
-    ((file : List ℕ) → before.file name ≡ Some file → IsSizeOf hints.size file → ServesFile (plan_of hints file) hints.metadata (chosen (before.settings name)) cache file name script before now served)
+    ((file : List ℕ) → before.file name ≡ Some file → IsSizeOf hints.size file
+    → ServesFile (plan_of hints file) hints.metadata (chosen (before.settings name)) cache file name script before now served)
 FileCause hints chosen cache name script before now (Err (failures.Open opened)) = (opened ≡ name) × AsksFor name before now × Rises 1 before.faults now.faults
 FileCause hints chosen cache name script before now (Err (failures.Read fault)) =
     AsksFor name before now × GaveBack name before now × Rises 1 before.read_faults now.read_faults ×
-    ((file : List ℕ) → before.file name ≡ Some file → IsSizeOf hints.size file → LacksFile (plan_of hints file) (chosen (before.settings name)) name fault before now)
+    ((file : List ℕ) → before.file name ≡ Some file → IsSizeOf hints.size file
+    → LacksFile (plan_of hints file) (chosen (before.settings name)) name fault before now)
 FileCause hints chosen cache name script before now (Err (failures.Refused refusal)) = AsksFor name before now × GaveBack name before now ×
     ((file : List ℕ) → before.file name ≡ Some file → IsSizeOf hints.size file → RefusesFile (plan_of hints file) name refusal before now)
 FileCause hints chosen cache name script before now (Err failures.OutOfMemory) = LeavesOpener name before now

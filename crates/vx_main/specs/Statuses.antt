@@ -3,12 +3,13 @@ use Rattle.std.specs.Prelude.{◌≡◌, ℕ, ◌∷◌, [], Bool, true, false, 
 use Rattle.vx_base.specs.Openers.{OpenerState}
 use Rattle.vx_base.specs.Streams.{SinkState}
 use Rattle.vx_footer.specs.declared.error.OpenError.{OpenError}
+use Rattle.vx_footer.specs.declared.write_error.WriteError.{WriteError}
 use Rattle.vx_rows.specs.declared.bind_error.BindError.{BindError}
 use Rattle.vx_sched.specs.declared.fault.Fault.{Fault}
 use Rattle.vx_main.specs.declared.command.Command.{Command}
 use Rattle.vx_main.specs.declared.failure.Failure.{Failure}
 use Rattle.vx_main.specs.declared.failure.Failure.TheVariants as failures
-use Rattle.vx_main.specs.Command.{names_of, reads_script}
+use Rattle.vx_main.specs.Command.{names_of, reads_input}
 use Rattle.vx_main.specs.Failures.{HasCause, message_of}
 use Rattle.vx_main.specs.Outputs.{IsTold, wanted_status}
 use Rattle.vx_main.specs.Outside.{Outside, Steady}
@@ -19,15 +20,17 @@ pub record Says (c : Command) (before now : Outside) (err err_now : SinkState) (
   pub cause : HasCause c before now failure
   pub reported : Reports (message_of failure) err err_now
 
--- some line of the script is no step
+-- some line of the input is in no grammar
 abbrev pub SaysLine : Command → Outside → Outside → SinkState → SinkState → Type 0
 SaysLine c before now err err_now = (line : ℕ) × Says c before now err err_now (failures.Line line)
 
--- the file fails some check, lacks a segment that its layout names, or has rows of which the predicate is none
+-- The file fails some check, lacks a segment that its layout names, or has rows of which the predicate is none; or the file
+-- of the rows is refused
 abbrev pub SaysRefused : Command → Outside → Outside → SinkState → SinkState → Type 0
 SaysRefused c before now err err_now =
     ((refusal : OpenError) × Says c before now err err_now (failures.Refused refusal)) ⊎ Says c before now err err_now failures.MissingSegment
     ⊎ ((error : BindError) × Says c before now err err_now (failures.Unbound error))
+    ⊎ ((error : WriteError) × Says c before now err err_now (failures.Unwritten error))
 
 -- some read failed
 abbrev pub SaysRead : Command → Outside → Outside → SinkState → SinkState → Type 0
@@ -62,7 +65,7 @@ pub record FilesWell (before now : OpenerState) : Type 0 where
 -- no count of what a command calls rose, and what it reads is told
 pub record AllWell (c : Command) (before now : Outside) : Type 0 where
   pub told : IsTold c before
-  pub input : reads_script c ≡ true → Steady before.source.faults now.source.faults
+  pub input : reads_input c ≡ true → Steady before.source.faults now.source.faults
   pub files : (name : List ℕ) → names_of c ≡ name ∷ [] → FilesWell before.files now.files
   pub output : Steady before.out.faults now.out.faults
 

@@ -9,6 +9,7 @@ use crate::commands::demo::Demo;
 use crate::commands::prune::Prune;
 use crate::commands::serve::Serve;
 use crate::commands::sizes::Sizes;
+use crate::commands::write::Write;
 use crate::failure::Failure;
 use std::alloc::Global;
 use vx_base::{Opener, Source};
@@ -28,6 +29,8 @@ pub enum Command<'a> {
     Sizes(Sizes<'a>),
     /// Print whether the file of a name can be skipped, since no row of it satisfies a predicate.
     Prune(Prune<'a>),
+    /// Write the rows on the input as a file.
+    Write(Write<'a>),
 }
 
 /// A command without arguments.
@@ -61,6 +64,9 @@ impl<'a> Command<'a> {
         if word.as_str() == "prune" {
             return Prune::parse(alloc, rest);
         }
+        if word.as_str() == "write" {
+            return Write::parse(alloc, rest);
+        }
         if word.as_str() == "--help" {
             return alone(Command::Help, rest);
         }
@@ -76,7 +82,7 @@ impl<'a> Command<'a> {
         alloc: Global,
         input: &mut I,
         files: &mut F,
-    ) -> Result<Answer, Failure<'a>>
+    ) -> Result<Answer<'a>, Failure<'a>>
         ensures gathers { Gathers self.now (I.state input.old) (I.state input.new) (F.state files.old) (F.state files.new) result }
         ensures keeps { Keeps self.now (I.state input.old) (I.state input.new) (F.state files.old) (F.state files.new) }
     {
@@ -87,6 +93,7 @@ impl<'a> Command<'a> {
             Command::Demo(demo) => demo.answer(alloc, input),
             Command::Sizes(sizes) => sizes.answer(alloc, files),
             Command::Prune(prune) => prune.answer(alloc, files),
+            Command::Write(write) => write.answer(alloc, input),
         }
     }
 }

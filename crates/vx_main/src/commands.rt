@@ -3,3 +3,4 @@ pub(crate) mod demo;
 pub(crate) mod prune;
 pub(crate) mod serve;
 pub(crate) mod sizes;
+pub(crate) mod write;

@@ -7,11 +7,11 @@ ghost use Rattle.vx_base.specs.Streams.{SameSink};
 
 use crate::name::Name;
 use crate::print::fault::put_fault;
-use crate::refusal::{bind_error_name, refusal_name};
+use crate::refusal::{bind_error_name, refusal_name, write_error_name};
 use crate::text::TextOut;
 use std::alloc::{AllocError, Global};
 use vx_base::{Sink, SinkError};
-use vx_footer::OpenError;
+use vx_footer::{OpenError, WriteError};
 use vx_rows::BindError;
 use vx_sched::{Fault, Place};
 
@@ -20,7 +20,7 @@ use vx_sched::{Fault, Place};
 pub enum Failure<'a> {
     /// The words are no command.
     Usage,
-    /// The first line of the script that is no step, counted from 1.
+    /// The first line of the input that is in no grammar, counted from 1.
     Line(u64),
     /// The file fails an opening check.
     Refused(OpenError),
@@ -28,6 +28,8 @@ pub enum Failure<'a> {
     MissingSegment,
     /// The predicate is not one on the rows of the file.
     Unbound(BindError),
+    /// A check refuses the file of the rows.
+    Unwritten(WriteError),
     /// The file could not be read.
     Read(Fault),
     /// The input could not be read.
@@ -70,7 +72,10 @@ impl<'a> Failure<'a> {
         match self {
             Failure::Usage => 2,
             Failure::Line(_) => 3,
-            Failure::Refused(_) | Failure::MissingSegment | Failure::Unbound(_) => 4,
+            Failure::Refused(_)
+            | Failure::MissingSegment
+            | Failure::Unbound(_)
+            | Failure::Unwritten(_) => 4,
             Failure::Read(_) => 5,
             Failure::Input => 6,
             Failure::Output => 7,
@@ -92,6 +97,7 @@ impl<'a> Failure<'a> {
             Failure::Refused(refusal) => text.word(err, refusal_name(*refusal).as_bytes()),
             Failure::MissingSegment => text.word(err, b"MissingSegment"),
             Failure::Unbound(error) => text.word(err, bind_error_name(*error).as_bytes()),
+            Failure::Unwritten(error) => text.word(err, write_error_name(*error).as_bytes()),
             Failure::Read(fault) => put_read(fault, text, err),
             Failure::Input => text.word(err, b"input"),
             Failure::Output => text.word(err, b"output"),

@@ -1,4 +1,4 @@
-//! The program `vx`: serves the segments of a file, or of one that it writes, by a script.
+//! The program `vx`: serves the segments of files by a script, measures and skips files, and writes files of rows.
 #![tactic(auto, using(crate::proofs::TextLemmas::adds_then, crate::proofs::TextLemmas::adds_nothing))]
 
 mod answer;
@@ -13,6 +13,7 @@ mod filter;
 mod input;
 mod laws;
 mod memory;
+mod metadata_words;
 mod name;
 mod numbers;
 mod options;
@@ -25,15 +26,19 @@ mod reading;
 mod real_tests;
 mod refusal;
 mod row_type;
+mod rows_file;
 mod run;
 mod script;
 mod serving;
 #[cfg(test)]
 mod stream_tests;
+mod table;
 #[cfg(test)]
 mod tests;
 mod text;
 mod words;
+#[cfg(test)]
+mod write_tests;
 
 use std::process::ExitCode;
 use vx_base::{FileOpener, StdSink, StdSource};

@@ -3,7 +3,8 @@ ghost use Rattle.std.specs.Prelude.{◌≡◌, map, string_bytes, take, drop};
 ghost use Rattle.std.specs.List.{find};
 ghost use Rattle.std.specs.Option.{option_map};
 ghost use Rattle.std.specs.Str.{bytes_eq};
-ghost use Rattle.vx_main.specs.Options.{once, shape_named, values_behind, value_count, values_of as values_in, is_option as is_option_in, are_options as are_all_options, optional_number as optional_number_of};
+ghost use Rattle.vx_main.specs.Options.{once, repeated, shape_named, values_behind, value_count, values_of as values_in};
+ghost use Rattle.vx_main.specs.Options.{is_option as is_option_in, are_options as are_all_options, optional_number as optional_number_of};
 
 use crate::numbers::number;
 use std::marker::Model;
@@ -39,6 +40,18 @@ impl Shape {
         }
     }
 
+    /// An option that has so many values and may be given again.
+    pub(crate) fn repeated(word: &'static str, values: usize) -> Shape
+        ensures { result ≡ repeated word.now values }
+    {
+        Shape {
+            word,
+            values,
+            repeats: true,
+            is_last: false,
+        }
+    }
+
     fn is_named(&self, word: &str) -> bool
         ensures { result ≡ bytes_eq self.now.word word.now }
     {
@@ -65,7 +78,7 @@ fn named<'a>(shapes: &'a [Shape], word: &str) -> Option<&'a Shape>
 }
 
 /// How many of the words behind a word are its values.
-fn value_count(shapes: &[Shape], word: &str, words: &[String]) -> usize
+pub(crate) fn value_count(shapes: &[Shape], word: &str, words: &[String]) -> usize
     ensures { result ≡ value_count shapes.now word.now (map string_bytes words.now) }
 {
     match named(shapes, word) {
@@ -75,7 +88,7 @@ fn value_count(shapes: &[Shape], word: &str, words: &[String]) -> usize
 }
 
 /// The words behind so many.
-fn behind(words: &[String], count: usize) -> &[String]
+pub(crate) fn behind(words: &[String], count: usize) -> &[String]
     ensures { result.now ≡ drop count words.now }
 {
     if count < words.len() {
@@ -85,7 +98,7 @@ fn behind(words: &[String], count: usize) -> &[String]
 }
 
 /// So many of the first words, or all of them where there are fewer.
-fn first(words: &[String], count: usize) -> &[String]
+pub(crate) fn first(words: &[String], count: usize) -> &[String]
     ensures { result.now ≡ take count words.now }
 {
     if count < words.len() {

@@ -1,8 +1,8 @@
 //! The names of refusals.
 ghost use Rattle.std.specs.Prelude.{◌≡◌};
-ghost use Rattle.vx_main.specs.Refusals.{refusal_words, bind_error_words};
+ghost use Rattle.vx_main.specs.Refusals.{refusal_words, bind_error_words, write_error_words};
 
-use vx_footer::{OpenError, Which};
+use vx_footer::{OpenError, Which, WriteError};
 use vx_rows::BindError;
 
 /// The name of the opening check that a file fails.
@@ -45,5 +45,29 @@ pub(crate) fn bind_error_name(error: BindError) -> &'static str
         BindError::TypeMismatch => "TypeMismatch",
         BindError::NarrowingCast => "NarrowingCast",
         BindError::OutOfMemory => "OutOfMemory",
+    }
+}
+
+/// The check that refuses a file that is written.
+pub(crate) fn write_error_name(error: WriteError) -> &'static str
+    ensures { result.now ≡ write_error_words error }
+{
+    match error {
+        WriteError::TooManyMetadata => "TooManyMetadata",
+        WriteError::EmptyKey => "EmptyKey",
+        WriteError::LongKey => "LongKey",
+        WriteError::NotPermitted => "NotPermitted",
+        WriteError::TooDeep => "TooDeep",
+        WriteError::TooManyTables => "TooManyTables",
+        WriteError::ChunkDType => "ChunkDType",
+        WriteError::RowsOverflow => "RowsOverflow",
+        WriteError::ChunkFault => "ChunkFault",
+        WriteError::SegmentTooLong => "SegmentTooLong",
+        WriteError::TooManySegments => "TooManySegments",
+        WriteError::OffsetOverflow => "OffsetOverflow",
+        WriteError::WriteFault => "WriteFault",
+        WriteError::WriterFailed => "WriterFailed",
+        WriteError::DuplicateKey => "DuplicateKey",
+        WriteError::OutOfMemory => "OutOfMemory",
     }
 }

@@ -9,7 +9,7 @@ ghost use Rattle.vx_main.specs.Statuses.{Statuses};
 use crate::command::Command;
 use crate::failure::Failure;
 use std::alloc::Global;
-use vx_base::{Opener, Sink, SinkError, Source};
+use vx_base::{Opener, Sink, Source};
 
 /// Does what the words ask for: answers their command, and writes the answer's text.
 #[tactic(auto, using(crate::proofs::Performing::unparsed, crate::proofs::Performing::unanswered))]
@@ -29,11 +29,7 @@ fn perform<'a, I: Source, F: Opener, O: Sink>(
 {
     let command = Command::parse(alloc, words)?;
     let answer = command.answer(alloc, input, files)?;
-    match answer.print(alloc, out) {
-        Ok(()) => Ok(()),
-        Err(SinkError::Failed) => Err(Failure::Output),
-        Err(SinkError::OutOfMemory) => Err(Failure::OutOfMemory),
-    }
+    answer.print(alloc, out)
 }
 
 /// Reports a failure, and gives its status.

@@ -30,3 +30,11 @@ pub mod LeavesLemmas
 pub mod RuleLemmas
 pub mod SplitLemmas
 pub mod StillLemmas
+pub mod ReadBackPlaces
+pub mod ReadBackPlans
+pub mod ReadBackStatistics
+pub mod ReadBackWritten
+pub mod ReadBackColumns
+pub mod ReadBackRows
+pub mod ReadBackLeaves
+pub mod ReadBackPushed

@@ -1,6 +1,7 @@
 -- Chunks that are pushed one after the other, and what writing them answers.
-use Rattle.std.proofs.Common.{◌≡◌, ℕ, zero, suc, ◌+◌, ◌<◌, ◌≤◌, ◌^◌, List, [], ◌∷◌, ◌++◌, length, drop, get_or, Option, Ok, Err, refl, sym, ap, subst, ◌∙◌, arith, append_assoc, add-one, drop-cons, inl, inr}
-use Rattle.std.specs.Prelude.{◌⊎◌, Result, IsOk}
+use Rattle.std.proofs.Common.{◌≡◌, ℕ, zero, suc, ◌+◌, ◌<◌, ◌≤◌, ◌^◌, true, false, List, [], ◌∷◌, ◌++◌, length, drop, get_or, Option, Ok, Err, refl, sym, ap, subst, ◌∙◌, arith, append_assoc, add-one, drop-cons, inl, inr}
+use Rattle.std.specs.Prelude.{◌⊎◌, Result, IsOk, nat_lt}
+use Rattle.std.proofs.lemmas.Bool.Decides.{nat_tests}
 use Rattle.std.proofs.lemmas.List.{append-nil}
 use Rattle.vx_base.specs.Streams.{SinkState, TookPrefix}
 use Rattle.vx_data.specs.Dtype.{Dtype}
@@ -12,6 +13,7 @@ use Rattle.vx_rows.specs.Rows.{Rows, rows_len, column_view}
 use Rattle.vx_write.specs.declared.file_writer.FileWriter.{FileWriter}
 use Rattle.vx_write.specs.declared.summary.WriteSummary.{WriteSummary}
 use Rattle.vx_write.specs.Chunks.{columns_seen}
+use Rattle.vx_write.specs.OpensAgain.{Accepted}
 use Rattle.vx_write.specs.Options.{Options}
 use Rattle.vx_write.specs.RowsWritten.{pushes, Then, ChunksAnswer, RowsAnswer, Pushing, PushingEnds, CutShort, RowsLeave}
 use Rattle.vx_write.specs.Standing.{Stands, Broken, Refused, Pushed, PushAnswers, Ended, NotEnded, Finished}
@@ -73,6 +75,29 @@ accepted-answer o d past cs c x answer a next = (
   (λ is few. passed-then answer (push_checks o d past c) (ChunksAnswer o d (c ∷ past) cs answer) (a.checked is few) next),
 )
 
+-- a chunk more that was not refused
+is-passed : (r : Result (Unit {0}) WriteError) → IsOk r → r ≡ Ok tt
+is-passed (Ok tt) ok = refl
+is-passed (Err e) ok = cc
+
+few-or-many : (n m : ℕ) → (m ≤ n → ⊥) → n < m
+few-or-many n m not_many = elim (nat_lt n m) as (λ b. nat_lt n m ≡ b → n < m) [
+  | true ↦ λ is. less n m is
+  | false ↦ λ is. absurd (not_many (no-less n m is))
+] refl
+  where
+    less : (a b : ℕ) → nat_lt a b ≡ true → a < b
+    less a b h = grind (arith, nat_tests)
+
+    no-less : (a b : ℕ) → nat_lt a b ≡ false → b ≤ a
+    no-less a b h = grind (arith, nat_tests)
+
+accepted-more : (o : Options) (d : Dtype) (past : List Rows) (c : Rows) (x : Unit {0}) → Accepted o d past → PushAnswers d (count_after past) (push_checks o d past c) c (Ok x) → Accepted o d (c ∷ past)
+accepted-more o d past c x h a =
+    let chunk = a.accepted in
+    let few = few-or-many (count_after past + rows_len c) (2 ^ 64) (λ many. no-refusal x RowsOverflow (a.few chunk many)) in
+    (h, chunk, few, is-passed (push_checks o d past c) (a.checked chunk few))
+
 -- ---- pushes
 
 pushes-last : (past front : List Rows) (c : Rows) → pushes past (front ++ c ∷ []) ≡ c ∷ pushes past front
@@ -80,7 +105,7 @@ pushes-last past [] c = refl
 pushes-last past (x ∷ front) c = pushes-last (x ∷ past) front c
 
 pub pushing_start : (o : Options) (d : Dtype) (all : List Rows) (start : Option (List ℕ)) (w : FileWriter) (g : Option (List ℕ)) → Stands o d [] start w g → Pushing o d all all start w g
-pushing_start o d all start w g s = record { front = []; split = refl; stands = s; answers = λ answer h. h }
+pushing_start o d all start w g s = record { front = []; split = refl; stands = s; accepted = tt; answers = λ answer h. h }
 
 pub pushing_step : (o : Options) (d : Dtype) (all cs : List Rows) (c : Rows) (start g h : Option (List ℕ)) (w v : FileWriter) (x : Unit {0}) (p : Pushing o d all (c ∷ cs) start w g)
     → Pushed o d (pushes [] p.front) c start v h (Ok x) → Pushing o d all cs start v h
@@ -90,6 +115,7 @@ pushing_step o d all cs c start g h w v x p pushed =
       front = p.front ++ c ∷ [];
       split = p.split ∙ sym (append_assoc p.front (c ∷ []) cs);
       stands = subst (λ past. Stands o d past start v h) (sym last) pushed.ok;
+      accepted = subst (λ past. Accepted o d past) (sym last) (accepted-more o d (pushes [] p.front) c x p.accepted pushed.answers);
       answers = λ answer next. p.answers answer (accepted-answer o d (pushes [] p.front) cs c x answer pushed.answers (subst (λ past. ChunksAnswer o d past cs answer) last next));
     }
 
@@ -139,7 +165,7 @@ pub pushing_end : (o : Options) (d : Dtype) (all : List Rows) (start g : Option 
     → Finished o d (pushes [] p.front) start now r → ChunksAnswer o d [] all r
 pushing_end o d all start g now w r p f = p.answers r (finished-checked o d (pushes [] p.front) start now r f)
 
-all-front : (o : Options) (d : Dtype) (all : List Rows) (start g : Option (List ℕ)) (w : FileWriter) (p : Pushing o d all [] start w g) → p.front ≡ all
+pub all-front : (o : Options) (d : Dtype) (all : List Rows) (start g : Option (List ℕ)) (w : FileWriter) (p : Pushing o d all [] start w g) → p.front ≡ all
 all-front o d all start g w p = sym (append-nil p.front) ∙ sym p.split
 
 pub pushing_leaves : (o : Options) (d : Dtype) (all : List Rows) (before now : SinkState) (g : Option (List ℕ)) (w : FileWriter) (r : Answer) (p : Pushing o d all [] before.gained w g)

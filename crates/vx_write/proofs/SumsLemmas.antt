@@ -101,20 +101,20 @@ leaves_begun p d fit = fresh-leaves (leaves_of p d) (fresh-of p d fit)
 
 -- ---- leaves with a column more for each
 
-first-of : {A : Type 0} (x y : A) (xs ys : List A) → x ∷ xs ≡ y ∷ ys → x ≡ y
+pub first-of : {A : Type 0} (x y : A) (xs ys : List A) → x ∷ xs ≡ y ∷ ys → x ≡ y
 first-of x y xs ys h = cc
 
-rest-of : {A : Type 0} (x y : A) (xs ys : List A) → x ∷ xs ≡ y ∷ ys → xs ≡ ys
+pub rest-of : {A : Type 0} (x y : A) (xs ys : List A) → x ∷ xs ≡ y ∷ ys → xs ≡ ys
 rest-of x y xs ys h = cc
 
 -- all rows of a leaf, with a column more
-both-even : (leaf : Leaf) (c : Rows) (n : ℕ) → IsLeaf leaf → dtype_of c ≡ dtype_of leaf.kept → IsColumn n c → IsColumn (rows_len leaf.kept + n) (appended leaf.kept c)
+pub both-even : (leaf : Leaf) (c : Rows) (n : ℕ) → IsLeaf leaf → dtype_of c ≡ dtype_of leaf.kept → IsColumn n c → IsColumn (rows_len leaf.kept + n) (appended leaf.kept c)
 both-even leaf c n h t even = appended_is_column (rows_len leaf.kept) n leaf.kept c (sym t) h.even even
 
-own-length : (n : ℕ) (c : Rows) → IsColumn n c → rows_len c ≡ n
+pub own-length : (n : ℕ) (c : Rows) → IsColumn n c → rows_len c ≡ n
 own-length n c h = rows_are n c (column_rows n c h)
 
-own-even : (n : ℕ) (c : Rows) → IsColumn n c → IsColumn (rows_len c) c
+pub own-even : (n : ℕ) (c : Rows) → IsColumn n c → IsColumn (rows_len c) c
 own-even n c h = subst (λ m. IsColumn m c) (sym (own-length n c h)) h
 
 next-leaf : (leaf : Leaf) (c : Rows) (n : ℕ) → IsLeaf leaf → dtype_of c ≡ dtype_of leaf.kept → IsColumn n c → IsLeaf (grown_leaf leaf c)
@@ -138,7 +138,7 @@ leaves_next n (leaf ∷ leaves) (c ∷ cs) sound typed even = (
 
 -- ---- chunks that come to lie in a file
 
-abbrev puts : ℕ → List ChunkRows → Groups → Groups
+abbrev pub puts : ℕ → List ChunkRows → Groups → Groups
 puts k [] gs = gs
 puts k (c ∷ cs) gs = puts (k + 1) cs (put_at c.leaf (record { rows = rows_len c.rows; segment = k }) gs)
 
@@ -152,7 +152,7 @@ laid-one : (p : Place) (e : Encoded) → (with_chunk p e).laid ≡ p.laid ++ rec
 unfolding with_chunk
 laid-one p e = refl
 
-laid-groups : (k : Coding) (p : Place) (count : ℕ) (cs : List ChunkRows) → grouped count (with_chunks p (encoded_chunks k cs)).laid ≡ puts (length p.laid) cs (grouped count p.laid)
+pub laid-groups : (k : Coding) (p : Place) (count : ℕ) (cs : List ChunkRows) → grouped count (with_chunks p (encoded_chunks k cs)).laid ≡ puts (length p.laid) cs (grouped count p.laid)
 laid-groups k p count [] = refl
 laid-groups k p count (c ∷ cs) =
     let e = encoded_chunk k c in
@@ -164,13 +164,13 @@ laid-groups k p count (c ∷ cs) =
     ∙ ap (λ gs. puts (length p.laid + 1) cs gs) (put-push 0 p.laid x (replicate count []))
     ∙ ap (λ n. puts (length p.laid + 1) cs (put_at c.leaf (record { rows = rows_len c.rows; segment = n }) (grouped count p.laid))) (let same : 0 + length p.laid ≡ length p.laid = omega arith in same)
 
-puts-both : (k : ℕ) (olds news : List ChunkRows) (gs : Groups) → puts k (olds ++ news) gs ≡ puts (k + length olds) news (puts k olds gs)
+pub puts-both : (k : ℕ) (olds news : List ChunkRows) (gs : Groups) → puts k (olds ++ news) gs ≡ puts (k + length olds) news (puts k olds gs)
 puts-both k [] news gs = ap (λ n. puts n news gs) (omega arith)
 puts-both k (a ∷ olds) news gs =
     let hs = put_at a.leaf (record { rows = rows_len a.rows; segment = k }) gs in
     puts-both (k + 1) olds news hs ∙ ap (λ n. puts n news (puts (k + 1) olds hs)) (omega arith)
 
-put-front : (front : Groups) (g : List Numbered) (gs : Groups) (x : Numbered) → put_at (length front) x (front ++ g ∷ gs) ≡ front ++ (g ++ x ∷ []) ∷ gs
+pub put-front : (front : Groups) (g : List Numbered) (gs : Groups) (x : Numbered) → put_at (length front) x (front ++ g ∷ gs) ≡ front ++ (g ++ x ∷ []) ∷ gs
 put-front [] g gs x = refl
 put-front (f ∷ front) g gs x = ap (λ hs. f ∷ hs) (put-front front g gs x)
 
@@ -191,10 +191,10 @@ put-all k (c ∷ cs) front g gs =
       size = omega (arith, more.size, sum-push g x, sum_by-cons rows_len c cs);
     }
 
-snoc : (front : Groups) (g : List Numbered) (gs : Groups) → front ++ g ∷ gs ≡ (front ++ g ∷ []) ++ gs
+pub snoc : (front : Groups) (g : List Numbered) (gs : Groups) → front ++ g ∷ gs ≡ (front ++ g ∷ []) ++ gs
 snoc front g gs = sym (append_assoc front (g ∷ []) gs)
 
-snoc-length : (front : Groups) (g : List Numbered) → length (front ++ g ∷ []) ≡ length front + 1
+pub snoc-length : (front : Groups) (g : List Numbered) → length (front ++ g ∷ []) ≡ length front + 1
 snoc-length front g = length-append front (g ∷ [])
 
 -- ---- a push

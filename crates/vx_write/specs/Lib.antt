@@ -20,3 +20,4 @@ pub mod Sending
 pub mod Standing
 pub mod Taken
 pub mod Written
+pub mod OpensAgain

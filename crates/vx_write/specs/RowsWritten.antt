@@ -7,6 +7,7 @@ use Rattle.vx_footer.specs.declared.write_error.WriteError.TheVariants.{ChunkDTy
 use Rattle.vx_rows.specs.Rows.{Rows, rows_len}
 use Rattle.vx_write.specs.declared.file_writer.FileWriter.{FileWriter}
 use Rattle.vx_write.specs.declared.summary.WriteSummary.{WriteSummary}
+use Rattle.vx_write.specs.OpensAgain.{Accepted}
 use Rattle.vx_write.specs.Options.{Options}
 use Rattle.vx_write.specs.Standing.{Stands, Ended}
 use Rattle.vx_write.specs.Taken.{Checked}
@@ -53,6 +54,7 @@ pub record Pushing (o : Options) (d : Dtype) (all rest : List Rows) (start : Opt
   pub front : List Rows
   pub split : all ≡ front ++ rest
   pub stands : Stands o d (pushes [] front) start w gained
+  pub accepted : Accepted o d (pushes [] front)
   pub answers : (answer : Result WriteSummary WriteError) → ChunksAnswer o d (pushes [] front) rest answer → ChunksAnswer o d [] all answer
 
 -- what a refused push leaves and answers

@@ -1,4 +1,4 @@
-//! Writes files.
+//! Writes files of rows, which open again.
 #![tactic(auto)]
 
 mod column;
@@ -8,6 +8,7 @@ mod counting;
 mod cut_laws;
 mod cutting;
 mod feeding;
+mod field_texts;
 mod file_writer;
 mod gathering;
 mod held_leaf;
@@ -21,6 +22,7 @@ mod output;
 mod pending;
 mod plan;
 mod planning;
+mod read_back;
 mod segment_sink;
 mod sending;
 mod splitting;
@@ -34,6 +36,7 @@ mod writing;
 pub use counting::CountingVortexWrite;
 pub use cut_laws::pushes_may_be_divided;
 pub use options::VortexWriteOptions;
+pub use read_back::written_rows_are_read;
 pub use segment_sink::BufferedSegmentSink;
 pub use strategy::{FlatStrategy, LayoutStrategy, LeafStrategy, WriteStrategyBuilder};
 pub use summary::WriteSummary;
@@ -43,6 +46,8 @@ pub use writing::{Written, write};
 
 #[cfg(test)]
 mod layout_tests;
+#[cfg(test)]
+mod reopening_tests;
 #[cfg(test)]
 mod segment_tests;
 #[cfg(test)]

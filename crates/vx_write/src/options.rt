@@ -1,13 +1,16 @@
 //! What a file is to be written with.
-ghost use Rattle.std.specs.Prelude.{◌≡◌, ◌++◌, ◌∷◌, [], not, nat_le, ◌==◌, true, false, Err, if◌then◌else◌, IfOk, IfSome, IfNone, OnOk, OnErr, ◌<◌, length, map, slice_set, string_bytes};
-ghost use Rattle.std.specs.List.{list_all, filter};
+ghost use Rattle.std.specs.Prelude.{◌≡◌, ◌++◌, ◌∷◌, [], not, nat_le, ◌==◌, true, false, Err, if◌then◌else◌};
+ghost use Rattle.std.specs.Prelude.{IfOk, IfSome, IfNone, OnOk, OnErr, ◌<◌, length, map, slice_set, string_bytes};
+ghost use Rattle.std.specs.List.{list_all, filter, AllByRecursion};
 ghost use Rattle.vx_base.specs.Buffer.{Buffer};
 ghost use Rattle.vx_base.specs.Checks.{Gives};
 ghost use Rattle.vx_data.specs.LayoutWritten.{has_id as is_among};
 ghost use Rattle.vx_data.specs.Session.{known_arrays};
 ghost use Rattle.vx_footer.specs.Opening.{most_entries as most_of, longest_key as longest_of};
 ghost use Rattle.vx_footer.specs.PostscriptWritten.{FailsToWrite};
+ghost use Rattle.vx_footer.specs.ReadAgain.{IsValue};
 ghost use Rattle.vx_footer.specs.Serializing.{values_view, are_distinct};
+ghost use Rattle.vx_write.specs.OpensAgain.{AreTold};
 ghost use Rattle.vx_write.specs.Written.{coding_of};
 ghost use Rattle.vx_write.specs.Options.{default_options, with_value, with_values, values_checks, keys_of, layout_ids as layouts_of};
 
@@ -155,6 +158,16 @@ fn put(
             values.push(value)?;
             Ok(())
         }
+    }
+}
+
+/// What is so of all values: keys are texts, and alignments are at most 2^16.
+fn are_values(values: &[(String, ByteBuffer)])
+    ensures { AllByRecursion IsValue (values_view values.now) }
+{
+    for at in 0..values.len() {
+        let value = &values[at];
+        let _ = value.1.alignment().exponent();
     }
 }
 
@@ -366,6 +379,17 @@ impl VortexWriteOptions {
         ensures distinct { are_distinct (keys_of self.metadata) ≡ true }
     {
         self.values
+    }
+
+    /// What is so of all options.
+    pub(crate) fn are_told(&self)
+        ensures { AreTold self.now }
+    {
+        let strategy = &self.strategy;
+        let _ = strategy.default();
+        let _ = strategy.rules();
+        let _ = strategy.flat().alignment.exponent();
+        are_values(&self.values);
     }
 
     /// The version of the file.

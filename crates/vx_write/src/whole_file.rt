@@ -1,12 +1,15 @@
 //! Writes chunks of rows as one file.
-ghost use Rattle.std.specs.Prelude.{[], List, ℕ, Option, OnOk, IfErr};
+ghost use Rattle.std.specs.Prelude.{[], List, ℕ, Option, OnOk, IfOk, IfErr};
 ghost use Rattle.vx_data.specs.Dtype.{Dtype, dtype_view};
+ghost use Rattle.vx_footer.specs.ReadAgain.{content_read};
 ghost use Rattle.vx_write.specs.Chunks.{columns_seen};
+ghost use Rattle.vx_write.specs.OpensAgain.{OpensAgain};
 ghost use Rattle.vx_write.specs.Options.{Options};
-ghost use Rattle.vx_write.specs.RowsWritten.{RowsAnswer, RowsLeave, Pushing, PushingEnds};
+ghost use Rattle.vx_write.specs.RowsWritten.{pushes, RowsAnswer, RowsLeave, Pushing, PushingEnds};
 ghost use Rattle.vx_write.specs.Standing.{IsSound, Stands};
 ghost use Rattle.vx_write.specs.Taken.{SinkCause};
 
+use crate::field_texts::has_texts;
 use crate::file_writer::FileWriter;
 use crate::options::VortexWriteOptions;
 use crate::summary::WriteSummary;
@@ -53,7 +56,11 @@ pub fn write_rows<S: Sink>(
     // The sink gained the whole file, flushed, or a part of it.
     ensures leaves { RowsLeave options (dtype_view dtype) (columns_seen chunks.now) (S.state out.old) (S.state out.new) result }
     ensures cause { SinkCause (S.state out.old) (S.state out.new) result }
+    // The file opens again to the footer of the summary, and has the rows of the chunks, in their order.
+    ensures opens { IfOk result (λ s. OpensAgain options (dtype_view dtype) (pushes [] (columns_seen chunks.now)) (content_read s.footer.content)) }
 {
+    options.are_told();
+    has_texts(&dtype);
     let mut writer = match FileWriter::begin(alloc, options, dtype) {
         Ok(writer) => writer,
         Err(error) => return Err(error),

@@ -133,7 +133,7 @@ impl Demo {
         &self,
         alloc: Global,
         input: &mut I,
-    ) -> Result<Answer, Failure<'a>>
+    ) -> Result<Answer<'a>, Failure<'a>>
         ensures gathers { (files : OpenerState) → Gathers (commands.Demo self.now) (I.state input.old) (I.state input.new) files files result }
         ensures keeps { (files : OpenerState) → Keeps (commands.Demo self.now) (I.state input.old) (I.state input.new) files files }
     {

@@ -121,7 +121,7 @@ impl<'a> Prune<'a> {
         &self,
         alloc: Global,
         files: &mut F,
-    ) -> Result<Answer, Failure<'a>>
+    ) -> Result<Answer<'a>, Failure<'a>>
         ensures gathers { (source : SourceState) → Gathers (commands.Prune self.now) source source (F.state files.old) (F.state files.new) result }
         ensures keeps { (source : SourceState) → Keeps (commands.Prune self.now) source source (F.state files.old) (F.state files.new) }
     {

@@ -244,7 +244,7 @@ impl<'a> Serve<'a> {
         alloc: Global,
         input: &mut I,
         files: &mut F,
-    ) -> Result<Answer, Failure<'a>>
+    ) -> Result<Answer<'a>, Failure<'a>>
         ensures gathers { Gathers (commands.Serve self.now) (I.state input.old) (I.state input.new) (F.state files.old) (F.state files.new) result }
         ensures keeps { Keeps (commands.Serve self.now) (I.state input.old) (I.state input.new) (F.state files.old) (F.state files.new) }
     {

@@ -114,7 +114,7 @@ impl<'a> Sizes<'a> {
         &self,
         alloc: Global,
         files: &mut F,
-    ) -> Result<Answer, Failure<'a>>
+    ) -> Result<Answer<'a>, Failure<'a>>
         ensures gathers { (source : SourceState) → Gathers (commands.Sizes self.now) source source (F.state files.old) (F.state files.new) result }
         ensures keeps { (source : SourceState) → Keeps (commands.Sizes self.now) source source (F.state files.old) (F.state files.new) }
     {

@@ -6,7 +6,7 @@ use crate::text::TextOut;
 use vx_base::Sink;
 
 const WHAT: &[u8] =
-    b"vx serves the segments of columnar files and tells how large their fields are.\n\n";
+    b"vx serves the segments of columnar files, tells how large fields are, skips\nfiles, and writes them.\n\n";
 
 const USAGE: &[u8] = b"usage: vx COMMAND\n\n";
 
@@ -27,7 +27,7 @@ const DTYPE: &[u8] = b"      --dtype D     the rows have the type D: the file's 
 const META: &[u8] = b"      --meta        the values of the metadata are read and printed\n";
 
 const DISTANCE: &[u8] =
-    b"      --distance D  reads at most D bytes apart are merged, and --max M: into one\n                    of at most M bytes\n";
+    b"      --distance D  reads at most D bytes apart are merged, with --max M into\n                    one of at most M bytes\n";
 
 const READS: &[u8] = b"      --reads K     one call asks for at most K ranges, 1 to 1024\n";
 
@@ -42,9 +42,21 @@ const PRUNE: &[u8] =
 const DEMO: &[u8] =
     b"  demo V ..     serves a file of the values V, 1 to 8192 numbers of 32 bits,\n                which it writes to memory\n";
 
+const WRITE: &[u8] =
+    b"  write         reads a type and rows, a line each, from standard input, and\n                writes their file to standard output\n";
+
+const WRITE_OPTIONS: &[u8] =
+    b"      --no-dtype    the type is left out; with --no-stats the statistics are\n";
+
+const WRITE_BLOCKS: &[u8] =
+    b"      --block N     blocks have N rows, 8192 where it is not said\n      --target N    blocks are gathered to N bytes, 1048576 where it is not said\n";
+
+const WRITE_MORE: &[u8] =
+    b"      --meta K HEX  bytes in hexadecimal under the key K of the metadata\n      --v2          the file is of the second version\n";
+
 const TEXTS: &[u8] = b"  --help        prints this text\n  --version     prints the version\n";
 
-const OPTIONS: &[u8] = b"options stand behind NAME in any order, each at most once\n\n";
+const OPTIONS: &[u8] = b"options stand in any order, each at most once but --meta of write\n\n";
 
 const SCRIPT: &[u8] = b"script, a step a line\n";
 
@@ -57,8 +69,10 @@ const DROP: &[u8] = b"  d NUMBER      drops the request of a number\n";
 
 const DRIVE: &[u8] = b"  go            reads for each request that was polled and waits\n\n";
 
-const PREDICATES: &[u8] =
-    b"predicates, each node in front of its operands\n  root   field PATH   lit TYPE VALUE   cast TYPE P   add P P   eq|ne|lt|le|gt|ge P P\n  and P P   or P P   not P   isnull P   notnull P\n\n";
+const PREDICATES: &[u8] = b"predicates, each node in front of its operands\n";
+
+const NODES: &[u8] =
+    b"  root   field PATH   lit TYPE VALUE   cast TYPE P   add P P   eq|ne|lt|le|gt|ge P P\n  and P P   or P P   not P   isnull P   notnull P\n\n";
 
 const STATUSES: &[u8] = b"exit statuses, each with a line on standard error but 0\n";
 
@@ -66,7 +80,7 @@ const STATUSES_2: &[u8] =
     b"  0  all was printed                    6  the input could not be read\n  2  the arguments are no command       7  the output could not be written\n";
 
 const STATUSES_3: &[u8] =
-    b"  3  a line of the script is no step    8  the file could not be opened\n  4  the file is refused                9  the input is too long\n";
+    b"  3  a line of the input is wrong       8  the file could not be opened\n  4  the file is refused                9  the input is too long\n";
 
 const STATUSES_4: &[u8] = b"  5  the file could not be read        70  out of memory\n\n";
 
@@ -91,6 +105,10 @@ pub(crate) fn put_help<S: Sink>(text: &mut TextOut, out: &mut S)
     text.word(out, SIZES);
     text.word(out, PRUNE);
     text.word(out, DEMO);
+    text.word(out, WRITE);
+    text.word(out, WRITE_OPTIONS);
+    text.word(out, WRITE_BLOCKS);
+    text.word(out, WRITE_MORE);
     text.word(out, TEXTS);
     text.word(out, OPTIONS);
     text.word(out, SCRIPT);
@@ -99,6 +117,7 @@ pub(crate) fn put_help<S: Sink>(text: &mut TextOut, out: &mut S)
     text.word(out, DROP);
     text.word(out, DRIVE);
     text.word(out, PREDICATES);
+    text.word(out, NODES);
     text.word(out, STATUSES);
     text.word(out, STATUSES_2);
     text.word(out, STATUSES_3);

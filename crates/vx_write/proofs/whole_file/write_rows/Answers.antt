@@ -2,7 +2,8 @@ use Rattle.std.proofs.Common.{◌≡◌, ◌∙◌, ◌++◌, [], List, Option, 
 use Rattle.vx_data.specs.Dtype.{dtype_view}
 use Rattle.vx_base.proofs.TakingLemmas.{nothing-took}
 use Rattle.vx_write.specs.Chunks.{columns_seen}
-use Rattle.vx_write.proofs.RowsLemmas.{begin_refused, begun_answer, pushing_end, pushing_leaves}
+use Rattle.vx_write.proofs.ReadBackPushed.{ended_opens}
+use Rattle.vx_write.proofs.RowsLemmas.{all-front, begin_refused, begun_answer, pushing_end, pushing_leaves}
 use Rattle.vx_write.proofs.whole_file.write_rows.Goals as goal
 
 pub returns-in-Err-clause-answer : goal.returns-in-Err-clause-answer
@@ -50,6 +51,18 @@ returns-in-Ok-finish-clause-leaves g c =
     let p = c.in-Ok-push_all.ensures.ok o d start (c.in-Ok.ensures.stands start) in
     let f = c.in-Ok-finish.ensures.finished o d _ start p.stands in
     pushing_leaves o d (columns_seen c.args.chunks.now) (state c.args.out.now) (state c.finish.new.out) (state c.push_all.new.out).gained c.push_all.new.writer (Ok c.in-Ok-finish.summary) p f
+
+pub returns-in-Ok-finish-clause-opens : goal.returns-in-Ok-finish-clause-opens
+returns-in-Ok-finish-clause-opens g c =
+    let state = g.S.Sink.state in
+    let start = (state c.args.out.now).gained in
+    let o = c.args.options in
+    let d = dtype_view c.args.dtype in
+    let all = columns_seen c.args.chunks.now in
+    let p = c.in-Ok-push_all.ensures.ok o d start (c.in-Ok.ensures.stands start) in
+    let f = c.in-Ok-finish.ensures.finished o d _ start p.stands in
+    let whole = all-front o d all start (state c.push_all.new.out).gained c.push_all.new.writer p in
+    ended_opens o d p.front all start (state c.finish.new.out) c.in-Ok-finish.summary c.are_told.ensures c.has_texts.ensures whole p.accepted f
 
 pub returns-in-Err-finish-clause-answer : goal.returns-in-Err-finish-clause-answer
 returns-in-Err-finish-clause-answer g c =

@@ -16,3 +16,8 @@ pub returns-in-Prune-clause-keeps : goal.returns-in-Prune-clause-keeps
 returns-in-Prune-clause-keeps g c =
     let source = g.I.Source.state c.args.input.now in
     subst (λ x. Keeps x source source (g.F.Opener.state c.args.files.now) (g.F.Opener.state c.answer-in-Prune.new.files)) (sym c.in-Prune.is) (c.answer-in-Prune.ensures.keeps source)
+
+pub returns-in-Write-clause-keeps : goal.returns-in-Write-clause-keeps
+returns-in-Write-clause-keeps g c =
+    let files = g.F.Opener.state c.args.files.now in
+    subst (λ x. Keeps x (g.I.Source.state c.args.input.now) (g.I.Source.state c.answer-in-Write.new.input) files files) (sym c.in-Write.is) (c.answer-in-Write.ensures.keeps files)

@@ -1,6 +1,6 @@
 use Rattle.std.proofs.Common.{rules, ◌≡◌, Err}
 use Rattle.vx_rows.specs.Predicates.{pred_view}
-use Rattle.vx_main.proofs.PruneArms.{prune-fails, prune-answers, prune-refuses, prune-stopped}
+use Rattle.vx_main.proofs.PruneArms.{prune-fails, prune-answers}
 use Rattle.vx_main.proofs.commands.prune.Prune.answer.Goals as goal
 
 pub returns-in_err-served-clause-gathers : goal.returns-in_err-served-clause-gathers

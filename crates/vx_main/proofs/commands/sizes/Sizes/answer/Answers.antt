@@ -1,5 +1,5 @@
 use Rattle.std.proofs.Common.{rules, ◌≡◌, Err}
-use Rattle.vx_main.proofs.Arms.{sizes-fails, sizes-answers, sizes-lacks, sizes-stopped}
+use Rattle.vx_main.proofs.Arms.{sizes-fails, sizes-answers}
 use Rattle.vx_main.proofs.commands.sizes.Sizes.answer.Goals as goal
 
 pub returns-in_err-served-clause-gathers : goal.returns-in_err-served-clause-gathers

@@ -1,0 +1,21 @@
+use Rattle.std.proofs.Common.{ℕ, List, ◌*◌, ◌+◌, drop, map}
+use Rattle.std.specs.Prelude.{string_bytes}
+use Rattle.vx_data.specs.Layout.{layouts_of, tree_size}
+use Rattle.vx_file.specs.Scans.{seen}
+use Rattle.vx_file.proofs.ReadingLemmas.{Progress}
+use Rattle.vx_file.proofs.layout_reading.+reading.Given as goal
+
+abbrev pub decreases-read_children : goal.decreases-read_children
+decreases-read_children g l = 2 * tree_size l.layout.now
+
+abbrev pub decreases-read_layout : goal.decreases-read_layout
+decreases-read_layout g l = 2 * tree_size l.layout.now + 1
+
+-- the children in front are read, and the source serves the same files
+abbrev pub invariant-read_children-loop-child : goal.invariant-read_children-loop-child
+invariant-read_children-loop-child g l =
+    let source = g.S.SegmentSource in
+    record {
+      progress : Progress (source.serves l.fn.source) (source.state l.fn.source) (source.state l.source) (map string_bytes l.ids) (layouts_of l.children) (layouts_of (drop l.child-index l.children)) (seen l.columns.items);
+      serves : (file : List ℕ) → source.serves l.fn.source file → source.serves l.source file;
+    }
