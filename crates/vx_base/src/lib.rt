@@ -21,8 +21,6 @@ mod segment_cache;
 mod sequence;
 mod std_stream;
 mod stream;
-#[cfg(test)]
-mod tests;
 mod text;
 mod windowed;
 mod writing;

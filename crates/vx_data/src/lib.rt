@@ -61,6 +61,3 @@ pub use table_write_error::TableWriteError;
 pub use text_error::TextError;
 pub use texts_back::{dtype_text_is_read, quoted_text_is_read};
 pub use unquoting::{after, read_quoted, unquote};
-
-#[cfg(test)]
-mod tests;

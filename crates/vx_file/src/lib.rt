@@ -10,8 +10,6 @@ mod metadata;
 mod open_options;
 mod opened;
 mod opening;
-#[cfg(test)]
-mod opening_tests;
 mod options;
 mod path_opening;
 mod prepared;
@@ -22,16 +20,12 @@ mod row_filter;
 mod scan;
 mod scan_builder;
 mod scan_error;
-#[cfg(test)]
-mod scan_tests;
 mod served;
 mod serving;
 mod splits;
 mod statistics;
 mod step;
 mod steps;
-#[cfg(test)]
-mod tests;
 mod vortex_file;
 
 pub use layout_readers::{FileLayoutReader, ScanFile};

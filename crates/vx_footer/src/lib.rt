@@ -50,10 +50,3 @@ pub use version::{
     VERSION, VORTEX_FILE_EXTENSION,
 };
 pub use write_error::WriteError;
-
-#[cfg(test)]
-mod postscript_tests;
-#[cfg(test)]
-mod serializer_tests;
-#[cfg(test)]
-mod tests;

@@ -4,10 +4,6 @@
 mod answer;
 mod command;
 mod commands;
-#[cfg(test)]
-mod demo_tests;
-#[cfg(test)]
-mod example;
 mod failure;
 mod filter;
 mod input;
@@ -19,26 +15,16 @@ mod numbers;
 mod options;
 mod print;
 mod printable;
-#[cfg(test)]
-mod prune_tests;
 mod reading;
-#[cfg(test)]
-mod real_tests;
 mod refusal;
 mod row_type;
 mod rows_file;
 mod run;
 mod script;
 mod serving;
-#[cfg(test)]
-mod stream_tests;
 mod table;
-#[cfg(test)]
-mod tests;
 mod text;
 mod words;
-#[cfg(test)]
-mod write_tests;
 
 use std::process::ExitCode;
 use vx_base::{FileOpener, StdSink, StdSource};

@@ -14,8 +14,3 @@ pub use binder::FileStatsBinder;
 pub use predicate_words::read_predicate;
 pub use pruning::{can_prune_file_stats, one_comparison_is_exact, pruning_is_sound};
 pub use stats_reader::FileStatsLayoutReader;
-
-#[cfg(test)]
-mod tests;
-#[cfg(test)]
-mod word_tests;

@@ -74,10 +74,3 @@ pub use running_stats::RunningStats;
 pub use sharing::may_be_shared;
 pub use struct_rows::StructRows;
 pub use text_column::TextColumn;
-
-#[cfg(test)]
-mod part_tests;
-#[cfg(test)]
-mod predicate_tests;
-#[cfg(test)]
-mod tests;

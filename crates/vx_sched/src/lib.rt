@@ -11,8 +11,6 @@ mod flying;
 mod gather;
 mod io_request;
 mod law;
-#[cfg(test)]
-mod merging_tests;
 mod metrics;
 mod polls;
 mod read;
@@ -20,8 +18,6 @@ mod request;
 mod span;
 mod state;
 mod table;
-#[cfg(test)]
-mod tests;
 
 pub use asking::{ask, ask_size};
 pub use counts::Counts;

@@ -14,7 +14,6 @@ pub mod PendingLemmas
 pub mod InsideLemmas
 pub mod PutLemmas
 pub mod RegisterLemmas
-pub mod ScriptLemmas
 pub mod SettingLemmas
 pub mod SlotLemmas
 pub mod SourceLemmas

@@ -19,8 +19,6 @@ mod slots;
 mod span;
 mod tail;
 mod telling;
-#[cfg(test)]
-mod tests;
 
 pub use buffer_source::BufferSegmentSource;
 pub use fetching::Fetched;

@@ -24,6 +24,3 @@ pub use table_writer::TableWriter;
 pub use vector_reader::VectorReader;
 pub use visits::Visits;
 pub use walk_error::WalkError;
-
-#[cfg(test)]
-mod tests;

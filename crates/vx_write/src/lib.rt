@@ -43,14 +43,3 @@ pub use summary::WriteSummary;
 pub use whole_file::write_rows;
 pub use write_error::WriteError;
 pub use writing::{Written, write};
-
-#[cfg(test)]
-mod layout_tests;
-#[cfg(test)]
-mod reopening_tests;
-#[cfg(test)]
-mod segment_tests;
-#[cfg(test)]
-mod tests;
-#[cfg(test)]
-mod writer_tests;
