@@ -37,7 +37,15 @@ pub record SameOpener (before now : OpenerState) : Type 0 where
   pub memory_never_falls : before.memory_faults ≤ now.memory_faults
 
 pub same_opener : (a : OpenerState) → SameOpener a a
-same_opener a = record { file = refl; settings = refl; never_fails = refl; never_falls = omega arith; read_never_falls = omega arith; memory_never_falls = omega arith }
+same_opener a =
+    record {
+      file = refl;
+      settings = refl;
+      never_fails = refl;
+      never_falls = omega arith;
+      read_never_falls = omega arith;
+      memory_never_falls = omega arith;
+    }
 
 pub same_opener-then : (a b c : OpenerState) → SameOpener a b → SameOpener b c → SameOpener a c
 same_opener-then a b c h k = record {

@@ -39,7 +39,8 @@ PreparesBuffer hints bytes (Err errors.OutOfMemory) = Unit {0}
 
 -- A file in memory was opened: its footer is the plan's, its segments are those of its bytes, and the values of the metadata
 -- are theirs, where they are to be loaded.
-pub record OpensBuffer (hints : Hints) (buffer : Buffer) (footer : FooterContent) (source : FileInMemory) (metadata : Option (List MetadataValue)) : Type 0 where
+pub record OpensBuffer (hints : Hints) (buffer : Buffer) (footer : FooterContent) (source : FileInMemory)
+    (metadata : Option (List MetadataValue)) : Type 0 where
   pub footer_is : (buffer_plan hints buffer.bytes).footer ≡ Ok footer
   pub source_is : source ≡ record { buffer = buffer; table = segment_table footer }
   pub metadata_is : metadata ≡ values_if hints.metadata buffer.bytes footer

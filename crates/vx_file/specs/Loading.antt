@@ -70,7 +70,8 @@ pub record Drives (w : World) (footer : FooterContent) (cache cache_now : CacheS
   pub fetches : Fetches w [] cache cache_now (metadata_ids footer) fetched kept
 
 -- the numbers of the segments that it put into the cache
-abbrev pub put_numbers : (w : World) (footer : FooterContent) (cache cache_now : CacheState) (fetched : Fetched) → Drives w footer cache cache_now fetched → List ℕ
+abbrev pub put_numbers : (w : World) (footer : FooterContent) (cache cache_now : CacheState) (fetched : Fetched)
+    → Drives w footer cache cache_now fetched → List ℕ
 put_numbers w footer cache cache_now fetched d = put_by d.fetches.waiting fetched.spans
 
 -- the values of the metadata were loaded: one for each entry, in order, which are their segments' bytes where the entries
@@ -126,10 +127,13 @@ pub record LoadsNothing (include : Bool) (before now : ReaderState) (cache cache
   pub cache_is : cache_now ≡ cache
 
 -- what loading the metadata answers, where it may not be asked for
-abbrev pub LoadIfCause : Bool → World → List ℕ → FooterContent → ReaderState → ReaderState → CacheState → CacheState → Result (Option Loaded) ServeError → Type 0
+abbrev pub LoadIfCause : Bool → World → List ℕ → FooterContent → ReaderState → ReaderState → CacheState → CacheState
+    → Result (Option Loaded) ServeError → Type 0
 LoadIfCause include w file footer before now cache cache_now (Ok None) = LoadsNothing include before now cache cache_now
-LoadIfCause include w file footer before now cache cache_now (Ok (Some l)) = (include ≡ true) × Loads w file footer cache cache_now l × AsksSpans l.spans before now
-LoadIfCause include w file footer before now cache cache_now (Err e) = (let answer : Result Loaded ServeError = Err e in LoadCause w file footer before now cache cache_now answer)
+LoadIfCause include w file footer before now cache cache_now (Ok (Some l)) =
+    (include ≡ true) × Loads w file footer cache cache_now l × AsksSpans l.spans before now
+LoadIfCause include w file footer before now cache cache_now (Err e) =
+    (let answer : Result Loaded ServeError = Err e in LoadCause w file footer before now cache cache_now answer)
 
 -- the spans that were read, if the metadata was loaded, and the values
 abbrev pub spans_of : Option Loaded → List Span

@@ -48,10 +48,12 @@ pub record NotOpened (plan : Plan) (include : Bool) (file : List ℕ) (before : 
 
 -- a reader that tells its bytes opened a file, or why not, where a size by which the tail is read is theirs
 abbrev pub OpensBy : Hints → ReaderState → CacheState → Held → Type 0
-OpensBy hints before cache f = (file : List ℕ) → before.bytes ≡ Some file → IsSized hints file → OpensRead (plan_of hints file) hints.metadata file before cache f
+OpensBy hints before cache f =
+    (file : List ℕ) → before.bytes ≡ Some file → IsSized hints file → OpensRead (plan_of hints file) hints.metadata file before cache f
 
 abbrev pub FailsBy : Hints → ReaderState → CacheState → ServeError → Type 0
-FailsBy hints before cache e = (file : List ℕ) → before.bytes ≡ Some file → IsSized hints file → NotOpened (plan_of hints file) hints.metadata file before cache e
+FailsBy hints before cache e =
+    (file : List ℕ) → before.bytes ≡ Some file → IsSized hints file → NotOpened (plan_of hints file) hints.metadata file before cache e
 
 -- the name was asked for once, and a fresh reader of it opened the file
 pub record OpensPath (hints : Hints) (name : List ℕ) (before now : OpenerState) (cache : CacheState) (f : Held) : Type 0 where

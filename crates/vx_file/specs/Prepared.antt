@@ -34,5 +34,6 @@ PrepareCause plan include file before now cache cache_now (Ok p) = PreparedFrom 
 PrepareCause plan include file before now cache cache_now (Err (errors.Open e)) = RefusedFrom plan before now e
 PrepareCause plan include file before now cache cache_now (Err (errors.Fault fault)) =
     SizeFault plan before now fault ⊎ TailFault plan before now fault ⊎ MetadataFault plan before now cache_now (cause.Fault fault)
-PrepareCause plan include file before now cache cache_now (Err errors.CacheFault) = CacheRefused plan before now ⊎ MetadataFault plan before now cache_now cause.Cache
+PrepareCause plan include file before now cache cache_now (Err errors.CacheFault) =
+    CacheRefused plan before now ⊎ MetadataFault plan before now cache_now cause.Cache
 PrepareCause plan include file before now cache cache_now (Err errors.OutOfMemory) = StopsOpening plan before now ⊎ StopsMetadata plan before now cache_now

@@ -27,7 +27,8 @@ range_before start first = if nat_lt start first then (start, first - start) ∷
 
 -- the first range, and what lies before it
 abbrev pub tail_ranges : Hints → List ℕ → List (ℕ × ℕ)
-tail_ranges hints file = (first_start hints (length file), length file - first_start hints (length file)) ∷ range_before (tail_start hints file) (first_start hints (length file))
+tail_ranges hints file = (first_start hints (length file), length file - first_start hints (length file))
+    ∷ range_before (tail_start hints file) (first_start hints (length file))
 
 -- an opening range is asked without an alignment
 abbrev pub opening_range : ℕ × ℕ → ReadAtRequest

@@ -60,7 +60,8 @@ pub record Plays (w : World) (file : List ℕ) (script : List Step) (cache cache
 
 -- the metadata, where it is to be loaded; the spans that were read for it; and the numbers of the segments that these brought
 -- into the cache
-pub record LoadsMetadata (w : World) (file : List ℕ) (footer : FooterContent) (cache cache_now : CacheState) (metadata : List MetadataValue) (spans : List Span) (numbers : List ℕ) : Type 0 where
+pub record LoadsMetadata (w : World) (file : List ℕ) (footer : FooterContent) (cache cache_now : CacheState)
+    (metadata : List MetadataValue) (spans : List Span) (numbers : List ℕ) : Type 0 where
   pub loaded : Loaded
   pub loads : Loads w file footer cache cache_now loaded
   pub values : metadata ≡ loaded.values
@@ -78,7 +79,8 @@ HaveValues file footer metadata = IfSome metadata (λ values. values ≡ map (va
 
 -- A file was opened by a plan, the covered segments were put into the cache, and the metadata was loaded, where that is asked
 -- for.
-pub record Prepares (plan : Plan) (include : Bool) (file : List ℕ) (settings : ReaderSettings) (cache cache_now : CacheState) (footer : FooterContent) (opening : List (ℕ × ℕ)) (metadata : Option (List MetadataValue)) : Type 0 where
+pub record Prepares (plan : Plan) (include : Bool) (file : List ℕ) (settings : ReaderSettings) (cache cache_now : CacheState)
+    (footer : FooterContent) (opening : List (ℕ × ℕ)) (metadata : Option (List MetadataValue)) : Type 0 where
   pub footer_is : plan.footer ≡ Ok footer
   pub spans : List Span
   pub opening_is : opening ≡ plan.ranges ++ map range_of spans
@@ -90,7 +92,8 @@ pub record Prepares (plan : Plan) (include : Bool) (file : List ℕ) (settings :
 
 -- A script was served from a file that was opened by a plan: the footer is the plan's, the metadata was loaded before, where that
 -- is asked for, and a history answers the script, one reply for each step.
-pub record Serves (plan : Plan) (include : Bool) (file : List ℕ) (script : List Step) (settings : ReaderSettings) (cache cache_now : CacheState) (s : Served) : Type 0 where
+pub record Serves (plan : Plan) (include : Bool) (file : List ℕ) (script : List Step) (settings : ReaderSettings)
+    (cache cache_now : CacheState) (s : Served) : Type 0 where
   pub prepared : CacheState
   pub prepares : Prepares plan include file settings cache prepared s.footer.content s.opening s.metadata
   pub plays : Plays (world_of plan s.footer.content settings) file script prepared cache_now s.replies
@@ -103,7 +106,8 @@ asked ranges spans replies = opened ranges ++ asked_by spans ++ asked_for replie
 
 -- A script was served from a file, and the reader was asked exactly for the ranges of opening, the spans of the metadata and
 -- those of the drives.
-pub record ServedFrom (plan : Plan) (include : Bool) (file : List ℕ) (script : List Step) (before now : ReaderState) (cache cache_now : CacheState) (s : Served) : Type 0 where
+pub record ServedFrom (plan : Plan) (include : Bool) (file : List ℕ) (script : List Step) (before now : ReaderState)
+    (cache cache_now : CacheState) (s : Served) : Type 0 where
   pub serves : Serves plan include file script (settings_of before) cache cache_now s
   pub asked : Grew (asked plan.ranges serves.prepares.spans s.replies) before.log now.log
   pub bad : Rises (bad_spans serves.prepares.spans + bad_replies s.replies) before.faults now.faults
@@ -190,7 +194,8 @@ CauseBy plan include file script before now cache cache_now (Ok s) = ServedFrom 
 CauseBy plan include file script before now cache cache_now (Err (errors.Open e)) = RefusedFrom plan before now e
 CauseBy plan include file script before now cache cache_now (Err (errors.Fault fault)) =
     SizeFault plan before now fault ⊎ TailFault plan before now fault ⊎ MetadataFault plan before now cache_now (cause.Fault fault)
-CauseBy plan include file script before now cache cache_now (Err errors.CacheFault) = CacheRefused plan before now ⊎ MetadataFault plan before now cache_now cause.Cache
+CauseBy plan include file script before now cache cache_now (Err errors.CacheFault) =
+    CacheRefused plan before now ⊎ MetadataFault plan before now cache_now cause.Cache
 CauseBy plan include file script before now cache cache_now (Err errors.OutOfMemory) =
     StopsOpening plan before now ⊎ StopsMetadata plan before now cache_now ⊎ StopsServing plan script before now
 

@@ -25,7 +25,8 @@ pub record Asks (replies : List Reply) (before now : ReaderState) : Type 0 where
   pub rises : Rises (bad_replies replies) before.faults now.faults
 
 -- a step was answered
-pub record IsAnswered (w : World) (past : List Moment) (step : Step) (before now : ReaderState) (cache cache_now : CacheState) (reply : Reply) (k : Kept) : Type 0 where
+pub record IsAnswered (w : World) (past : List Moment) (step : Step) (before now : ReaderState) (cache cache_now : CacheState)
+    (reply : Reply) (k : Kept) : Type 0 where
   pub got : Got
   pub row : IsRow w past (deed_of step got) reply
   pub touches : Touches w past (deed_of step got) reply cache cache_now
@@ -54,7 +55,8 @@ pub record StopsStep (w : World) (past : List Moment) (before now : Option Log) 
 
 -- Some steps of a script were answered from a session, and these are left: the history so far, what was asked, what was
 -- done to the cache, and that all was true where the session and the cache had a file's bytes.
-pub record Answering (w : World) (script rest : List Step) (before now : ReaderState) (first : Kept) (cache cache_now : CacheState) (replies : List Reply) (k : Kept) : Type 0 where
+pub record Answering (w : World) (script rest : List Step) (before now : ReaderState) (first : Kept) (cache cache_now : CacheState)
+    (replies : List Reply) (k : Kept) : Type 0 where
   pub history : List Moment
   pub split : steps_of history ++ rest ≡ script
   pub replies_are : replies_of history ≡ replies

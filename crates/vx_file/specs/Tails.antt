@@ -63,7 +63,8 @@ first_range hints file = (first_start hints (length file), length file - first_s
 abbrev pub FirstCause : Hints → List ℕ → ReaderState → ReaderState → Result Tail ServeError → Type 0
 FirstCause hints file before now (Ok t) = FirstRead hints file before now t
 FirstCause hints file before now (Err (errors.Open e)) = ⊥
-FirstCause hints file before now (Err (errors.Fault fault)) = SizeFault (tail_plan hints file) before now fault ⊎ RangeFault (first_range hints file).0 (first_range hints file).1 before now fault
+FirstCause hints file before now (Err (errors.Fault fault)) =
+    SizeFault (tail_plan hints file) before now fault ⊎ RangeFault (first_range hints file).0 (first_range hints file).1 before now fault
 FirstCause hints file before now (Err errors.CacheFault) = ⊥
 FirstCause hints file before now (Err errors.OutOfMemory) = GrewOrStayed (opening_range (first_range hints file) ∷ []) before.log now.log
 
@@ -147,7 +148,8 @@ IsSettled hints o None = asks_bytes (tail_step hints o.tail) ≡ false
 abbrev pub TailCause : Hints → List ℕ → ReaderState → ReaderState → Result Opening ServeError → Type 0
 TailCause hints file before now (Ok o) = TailRead hints file before now o
 TailCause hints file before now (Err (errors.Open e)) = RefusedFrom (tail_plan hints file) before now e
-TailCause hints file before now (Err (errors.Fault fault)) = SizeFault (tail_plan hints file) before now fault ⊎ TailFault (tail_plan hints file) before now fault
+TailCause hints file before now (Err (errors.Fault fault)) =
+    SizeFault (tail_plan hints file) before now fault ⊎ TailFault (tail_plan hints file) before now fault
 TailCause hints file before now (Err errors.CacheFault) = ⊥
 TailCause hints file before now (Err errors.OutOfMemory) = StopsOpening (tail_plan hints file) before now
 

@@ -41,8 +41,10 @@ impl<C: SegmentCache> VortexOpenOptions<C> {
           reader = F.Reader.state f.source.reader;
           cache = C.state f.source.cache;
         })) }
-        ensures opener { result ≡ Err errors.Opener → AsksFor path.now (F.state files.old) (F.state files.new) × Rises 1 (F.state files.old).faults (F.state files.new).faults }
-        ensures fails { (e : ServeError) → result ≡ Err (errors.Serve e) → FailsPath self.options path.now (F.state files.old) (F.state files.new) (C.state self.cache) e }
+        ensures opener { result ≡ Err errors.Opener → AsksFor path.now (F.state files.old) (F.state files.new)
+            × Rises 1 (F.state files.old).faults (F.state files.new).faults }
+        ensures fails { (e : ServeError) → result ≡ Err (errors.Serve e)
+            → FailsPath self.options path.now (F.state files.old) (F.state files.new) (C.state self.cache) e }
         ensures session { IfOk result (λ f. f.session ≡ self.session) }
         ensures same { SameOpener (F.state files.old) (F.state files.new) }
     {

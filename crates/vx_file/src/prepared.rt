@@ -102,7 +102,8 @@ fn load_if<R: Reader, C: SegmentCache>(
 ) -> Result<Option<Loaded>, ServeError>
     requires fit { AreFit (segment_table footer.now.content) tail.now }
     ensures cause { (file : List ℕ) → (R.state reader.old).bytes ≡ Some file → IsEnd file tail.now →
-        LoadIfCause options.now.metadata (table_world (segment_table footer.now.content) (settings_of (R.state reader.old)) (tail_start tail.now)) file footer.now.content
+        LoadIfCause options.now.metadata
+        (table_world (segment_table footer.now.content) (settings_of (R.state reader.old)) (tail_start tail.now)) file footer.now.content
         (R.state reader.old) (R.state reader.new) (C.state cache.old) (C.state cache.new) result }
     ensures slices { OnOk result ((file : List ℕ) → (R.state reader.old).bytes ≡ Some file → IsEnd file tail.now →
         TellsSlices file (segment_table footer.now.content) (C.state cache.old) → TellsSlices file (segment_table footer.now.content) (C.state cache.new)) }
@@ -156,7 +157,8 @@ pub(crate) fn prepare<R: Reader, C: SegmentCache>(
     cache: &mut C,
 ) -> Result<Prepared, ServeError>
     ensures cause { (file : List ℕ) → (R.state reader.old).bytes ≡ Some file → IsSized options.now file →
-        PrepareCause (plan_of options.now file) options.now.metadata file (R.state reader.old) (R.state reader.new) (C.state cache.old) (C.state cache.new) result }
+        PrepareCause (plan_of options.now file) options.now.metadata file (R.state reader.old) (R.state reader.new)
+        (C.state cache.old) (C.state cache.new) result }
     ensures fault { FaultRose (R.state reader.old) (R.state reader.new) (C.state cache.old) (C.state cache.new) result }
     ensures names { NamesCheck result }
     ensures steady { (file : List ℕ) → (R.state reader.old).never_fails ≡ true → (R.state reader.old).bytes ≡ Some file →

@@ -29,7 +29,8 @@ metadata_pieces (m ∷ ms) = tables 4 (map entry_pieces (m ∷ ms)) ∷ []
 
 abbrev pub postscript_pieces : Postscript → List Piece
 postscript_pieces p =
-    (((locator_pieces 0 p.dtype ++ table 1 (place_pieces p.layout) ∷ []) ++ locator_pieces 2 p.statistics) ++ table 3 (place_pieces p.footer) ∷ []) ++ metadata_pieces p.metadata
+    (((locator_pieces 0 p.dtype ++ table 1 (place_pieces p.layout) ∷ []) ++ locator_pieces 2 p.statistics)
+    ++ table 3 (place_pieces p.footer) ∷ []) ++ metadata_pieces p.metadata
 
 unfoldable pub postscript_root : Postscript → List ℕ
 postscript_root p = root_bytes (postscript_pieces p)

@@ -23,7 +23,8 @@ fn is_before(key: &str, other: &str) -> bool
 #[tactic(auto, using(crate::proofs::ValueLemmas::put_here, crate::proofs::ValueLemmas::put_next, crate::proofs::ValueLemmas::put_end))]
 fn place_of(sorted: &[(String, ByteBuffer)], key: &str) -> usize
     ensures inside { result ≤ length sorted.now }
-    ensures put { (b : Buffer) → values_view (take result sorted.now) ++ (key.now, b) ∷ values_view (drop result sorted.now) ≡ put_value (key.now, b) (values_view sorted.now) }
+    ensures put { (b : Buffer) → values_view (take result sorted.now) ++ (key.now, b)
+        ∷ values_view (drop result sorted.now) ≡ put_value (key.now, b) (values_view sorted.now) }
 {
     for at in 0..sorted.len() {
         if is_before(key, sorted[at].0.as_str()) {

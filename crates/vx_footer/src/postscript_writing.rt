@@ -186,5 +186,6 @@ impl Postscript {
 /// A postscript that was written is read again.
 #[tactic(auto, using(crate::proofs::PostscriptBack::written_back))]
 pub fn written_postscript_is_read()
-    ensures { (version : Version) (p : Places) (bytes : List ℕ) → IsSpelled p → postscript_written version p ≡ Ok bytes → postscript_checks version bytes ≡ Ok p }
+    ensures { (version : Version) (p : Places) (bytes : List ℕ) → IsSpelled p → postscript_written version p ≡ Ok bytes
+        → postscript_checks version bytes ≡ Ok p }
 {}

@@ -236,7 +236,8 @@ fn dtype_if_any(
 fn stats_if_any(alloc: Global, footer: &Footer) -> Result<Option<ByteBuffer>, WriteError>
     requires { nat_le (some_stats_visits footer.now.content.statistics) 1000000 ≡ true }
     ensures short { IfOk result (λ o. some_length (option_map (λ b. b.bytes) o) < 2 ^ 32) }
-    ensures value { Gives FailsToWrite (option_map (λ b. b.bytes)) result (short_if (has_sets footer.now.content.statistics) (stats_bytes footer.now.content.statistics)) }
+    ensures value { Gives FailsToWrite (option_map (λ b. b.bytes)) result
+        (short_if (has_sets footer.now.content.statistics) (stats_bytes footer.now.content.statistics)) }
 {
     let Some(statistics) = footer.statistics() else {
         return Ok(None);

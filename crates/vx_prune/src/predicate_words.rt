@@ -66,7 +66,8 @@ fn read_operand(
     levels: usize,
     words: &[String],
 ) -> Result<(Box<Predicate>, &[String]), TextError>
-    ensures { Gives FailsToRead (λ x. (pred_view x.0.value, map string_bytes x.1.now)) result (BadText lacking predicate_in levels (map string_bytes words.now)) }
+    ensures { Gives FailsToRead (λ x. (pred_view x.0.value, map string_bytes x.1.now)) result
+        (BadText lacking predicate_in levels (map string_bytes words.now)) }
 {
     let (predicate, rest) = read_front(alloc, levels, words)?;
     Ok((Box::new(alloc, predicate)?, rest))

@@ -9,17 +9,25 @@ use Rattle.vx_rows.specs.Columns.{Bools, Ints, Texts, Structs}
 use Rattle.vx_rows.specs.Rows.{Rows, FieldRows, bools, ints, texts, structs, no_columns, column}
 
 abbrev pub bools_code : Coded Bools
-bools_code = code_by (Bool × List (Option Bool)) (coded× coded_bool (coded_list (coded_option coded_bool))) (λ c. (c.nullable, c.rows)) (λ p. record { nullable = p.0; rows = p.1 }) (λ _. refl)
+bools_code =
+    code_by (Bool × List (Option Bool)) (coded× coded_bool (coded_list (coded_option coded_bool))) (λ c. (c.nullable, c.rows))
+    (λ p. record { nullable = p.0; rows = p.1 }) (λ _. refl)
 
 abbrev pub ints_code : Coded Ints
-ints_code = code_by (PType × (Bool × List (Option ℤ))) (coded× (ptype.the_row).coded (coded× coded_bool (coded_list (coded_option coded_ℤ)))) (λ c. (c.ptype, (c.nullable, c.rows)))
+ints_code =
+    code_by (PType × (Bool × List (Option ℤ))) (coded× (ptype.the_row).coded (coded× coded_bool (coded_list (coded_option coded_ℤ))))
+    (λ c. (c.ptype, (c.nullable, c.rows)))
     (λ p. record { ptype = p.0; nullable = p.1.0; rows = p.1.1 }) (λ _. refl)
 
 abbrev pub texts_code : Coded Texts
-texts_code = code_by (Bool × List (Option (List ℕ))) (coded× coded_bool (coded_list (coded_option (coded_list coded_ℕ)))) (λ c. (c.nullable, c.rows)) (λ p. record { nullable = p.0; rows = p.1 }) (λ _. refl)
+texts_code =
+    code_by (Bool × List (Option (List ℕ))) (coded× coded_bool (coded_list (coded_option (coded_list coded_ℕ))))
+    (λ c. (c.nullable, c.rows)) (λ p. record { nullable = p.0; rows = p.1 }) (λ _. refl)
 
 abbrev pub structs_code : Coded Structs
-structs_code = code_by (Bool × List Bool) (coded× coded_bool (coded_list coded_bool)) (λ c. (c.nullable, c.present)) (λ p. record { nullable = p.0; present = p.1 }) (λ _. refl)
+structs_code =
+    code_by (Bool × List Bool) (coded× coded_bool (coded_list coded_bool)) (λ c. (c.nullable, c.present))
+    (λ p. record { nullable = p.0; present = p.1 }) (λ _. refl)
 
 abbrev pub name_code : Coded (List ℕ)
 name_code = coded_list coded_ℕ

@@ -108,6 +108,7 @@ pub record AskedBlock {E : Type 0} (cores : List sched.Span) (before now : Reade
   pub log : IfOk block (λ b. Grew (asked_by b.reports.items) before.log now.log)
   pub rises : IfOk block (λ b. Rises (bad_spans b.reports.items) before.faults now.faults)
   pub memory : OnErr block (GrewOrStayed (map request_of cores) before.log now.log)
-  pub sound : (bytes : List ℕ) → before.never_fails ≡ true → before.bytes ≡ Some bytes → All (IsInside bytes) (map request_of cores) → now.faults ≡ before.faults
+  pub sound : (bytes : List ℕ) → before.never_fails ≡ true → before.bytes ≡ Some bytes → All (IsInside bytes) (map request_of cores)
+      → now.faults ≡ before.faults
   pub complete : IfOk block (λ b. (bytes : List ℕ) → before.never_fails ≡ true → before.bytes ≡ Some bytes → All (IsInside bytes) (map request_of cores) →
       bad_spans b.reports.items ≡ 0)

@@ -34,7 +34,8 @@ abbrev pub at_register : Reply → Fetch
 at_register reply = record { number = number_in reply; reply = reply }
 
 -- a segment was registered
-pub record IsRegistered (w : World) (past : List Moment) (before : CacheState) (id : SegmentId) (f : Fetch) (now : List Moment) (after : CacheState) : Type 0 where
+pub record IsRegistered (w : World) (past : List Moment) (before : CacheState) (id : SegmentId) (f : Fetch) (now : List Moment)
+    (after : CacheState) : Type 0 where
   pub got : Got
   pub fetch : f ≡ at_register f.reply
   pub row : IsRow w past (registers id.0 got) f.reply
@@ -123,7 +124,8 @@ pub record StopsFirst (w : World) (past : List Moment) (before after : CacheStat
   pub stops : StopsPolls w registered first k
 
 -- all were registered and polled, and the drive stopped
-pub record StopsInDrive (w : World) (past : List Moment) (log_before log_now : Option Log) (before after : CacheState) (ids : List SegmentId) (k : Kept) : Type 0 where
+pub record StopsInDrive (w : World) (past : List Moment) (log_before log_now : Option Log) (before after : CacheState)
+    (ids : List SegmentId) (k : Kept) : Type 0 where
   pub registered : List Moment
   pub cache : CacheState
   pub first : List Fetch
@@ -134,7 +136,8 @@ pub record StopsInDrive (w : World) (past : List Moment) (log_before log_now : O
   pub stops : StopsDrive w waiting log_before log_now cache after k
 
 -- the drive was made, and some of the pending numbers were polled again
-pub record StopsAgain (w : World) (past : List Moment) (log_before log_now : Option Log) (before after : CacheState) (ids : List SegmentId) (k : Kept) : Type 0 where
+pub record StopsAgain (w : World) (past : List Moment) (log_before log_now : Option Log) (before after : CacheState)
+    (ids : List SegmentId) (k : Kept) : Type 0 where
   pub registered : List Moment
   pub cache : CacheState
   pub first : List Fetch

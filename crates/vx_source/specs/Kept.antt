@@ -141,7 +141,8 @@ is_asked k s = nat_lt s (length k.table) && not (is_covered k s)
 -- where a register may find a segment
 abbrev pub IsLook : Kept → ℕ → Look → Type 0
 IsLook k s Missing = length k.table ≤ s
-IsLook k s (InTail buffer) = (s < length k.table) × (is_covered k s ≡ true) × ((spec : SegmentSpec) → slice_get k.table s ≡ Some spec → IsCut k.tail spec buffer)
+IsLook k s (InTail buffer) =
+    (s < length k.table) × (is_covered k s ≡ true) × ((spec : SegmentSpec) → slice_get k.table s ≡ Some spec → IsCut k.tail spec buffer)
 IsLook k s (InCache buffer) = (s < length k.table) × (is_covered k s ≡ false)
 IsLook k s CacheFailed = (s < length k.table) × (is_covered k s ≡ false)
 IsLook k s Nowhere = (s < length k.table) × (is_covered k s ≡ false)

@@ -70,7 +70,8 @@ impl Model for Session {
     } };
 
     ghost invariant = { λ s. IsKept s.segments.items s.tail
-        (idle s.distance (option_map (raised s.alignment) s.max_read_size) s.alignment s.concurrency) s.core (length s.requests.items) (length s.reads.items) (length s.newest.items) };
+        (idle s.distance (option_map (raised s.alignment) s.max_read_size) s.alignment s.concurrency) s.core
+        (length s.requests.items) (length s.reads.items) (length s.newest.items) };
 }
 
 /// The greatest alignment of segments.

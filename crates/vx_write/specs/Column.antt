@@ -72,7 +72,8 @@ unfoldable pub values_in : ℕ → List ℕ → Option (List ℤ)
 values_in zero [] = Some []
 values_in zero (byte ∷ bytes) = None
 values_in (suc count) bytes =
-    if nat_le 4 (length bytes) then option_map (λ values. cast_signed w32 (from_le_bytes w32 (take 4 bytes)) ∷ values) (values_in count (drop 4 bytes)) else None
+    if nat_le 4 (length bytes) then option_map (λ values. cast_signed w32 (from_le_bytes w32 (take 4 bytes)) ∷ values)
+    (values_in count (drop 4 bytes)) else None
 
 abbrev pub is_primitive : Option (List ℕ) → Bool
 is_primitive None = false

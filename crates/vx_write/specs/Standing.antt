@@ -57,7 +57,8 @@ pub record Broken (o : Options) (d : Dtype) (pushes : List Rows) (start : Option
   pub took : TookPart (sent o d pushes) start gained 0 w.output.taken
 
 -- a refused push leaves all as it was, where no byte was written, and else a broken writer
-pub record Refused (o : Options) (d : Dtype) (push : Rows) (past : List Rows) (start : Option (List ℕ)) (w : FileWriter) (gained : Option (List ℕ)) : Type 0 where
+pub record Refused (o : Options) (d : Dtype) (push : Rows) (past : List Rows) (start : Option (List ℕ)) (w : FileWriter)
+    (gained : Option (List ℕ)) : Type 0 where
   pub untouched : w.output.taken ≡ 0 → Stands o d past start w gained
   pub begun : 0 < w.output.taken → Broken o d (push ∷ past) start w gained
 
@@ -70,7 +71,8 @@ pub record PushAnswers (d : Dtype) (rows : ℕ) (checks : Result (Unit {0}) Writ
   pub accepted : OnOk result (IsChunk d push)
 
 -- what a push leaves and answers
-pub record Pushed (o : Options) (d : Dtype) (past : List Rows) (push : Rows) (start : Option (List ℕ)) (w : FileWriter) (gained : Option (List ℕ)) (result : Result (Unit {0}) WriteError) : Type 0 where
+pub record Pushed (o : Options) (d : Dtype) (past : List Rows) (push : Rows) (start : Option (List ℕ)) (w : FileWriter)
+    (gained : Option (List ℕ)) (result : Result (Unit {0}) WriteError) : Type 0 where
   pub ok : OnOk result (Stands o d (push ∷ past) start w gained)
   pub err : OnErr result (Refused o d push past start w gained)
   pub answers : PushAnswers d (count_after past) (push_checks o d past push) push result

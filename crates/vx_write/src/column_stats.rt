@@ -128,16 +128,20 @@ pub(crate) fn no_stats(
 
 /// Adds what is told of a column at a place.
 fn merge_at(stats: &mut Vec<RunningStats>, at: usize, more: RunningStats)
-    requires { (w : List Stat) × (a : Counted) × (b : Counted) × ArePair a b × (at < length stats.old.items) × (get_or stats.old.items at (running w a) ≡ running w a) × (more ≡ running w b) }
-    ensures { (w : List Stat) (a b : Counted) → ArePair a b → get_or stats.old.items at (running w a) ≡ running w a → more ≡ running w b → stats.new.items ≡ slice_set stats.old.items at (running w (both a b)) }
+    requires { (w : List Stat) × (a : Counted) × (b : Counted) × ArePair a b × (at < length stats.old.items)
+        × (get_or stats.old.items at (running w a) ≡ running w a) × (more ≡ running w b) }
+    ensures { (w : List Stat) (a b : Counted) → ArePair a b → get_or stats.old.items at (running w a) ≡ running w a → more ≡ running w b
+        → stats.new.items ≡ slice_set stats.old.items at (running w (both a b)) }
 {
     stats[at].merge(more);
 }
 
 /// Adds what is told of the rows behind those before.
 pub(crate) fn merge(stats: &mut Vec<RunningStats>, more: Vec<RunningStats>)
-    requires { (w : List Stat) × (a : List Counted) × (b : List Counted) × ArePairs a b × (stats.old.items ≡ map (running w) a) × (more.items ≡ map (running w) b) }
-    ensures { (w : List Stat) (a b : List Counted) → ArePairs a b → stats.old.items ≡ map (running w) a → more.items ≡ map (running w) b → stats.new.items ≡ half_both w 0 a b }
+    requires { (w : List Stat) × (a : List Counted) × (b : List Counted) × ArePairs a b × (stats.old.items ≡ map (running w) a)
+        × (more.items ≡ map (running w) b) }
+    ensures { (w : List Stat) (a b : List Counted) → ArePairs a b → stats.old.items ≡ map (running w) a → more.items ≡ map (running w) b
+        → stats.new.items ≡ half_both w 0 a b }
 {
     let mut more = more;
     while let Some(last) = more.pop() {

@@ -163,7 +163,8 @@ impl FileWriter {
         requires fine { self.old.failed ≡ false }
         ensures ok { OnOk result (TakenIn (column_view chunk.now) self.old self.new (S.state out.old).gained (S.state out.new).gained) }
         ensures err { OnErr result (NotTaken (column_view chunk.now) self.old self.new (S.state out.old).gained (S.state out.new).gained) }
-        ensures answers { PushAnswers (dtype_view self.old.dtype) self.old.rows (chunks_checks self.old.coding self.old.output (chunks_for self.old (column_view chunk.now))) (column_view chunk.now) result }
+        ensures answers { PushAnswers (dtype_view self.old.dtype) self.old.rows
+            (chunks_checks self.old.coding self.old.output (chunks_for self.old (column_view chunk.now))) (column_view chunk.now) result }
         ensures cause { SinkCause (S.state out.old) (S.state out.new) result }
     {
         match check(&self.dtype, self.rows, chunk) {

@@ -174,7 +174,10 @@ fn lay_out_struct(
     requires full { AreFull rows groups.now }
     requires enough { validity_count validity.now + leaves_count (plans_view plans.now) ≤ length groups.now }
     ensures count { IfOk result (λ x. x.1 ≡ validity_count validity.now + leaves_count (plans_view plans.now)) }
-    ensures layout { IfOk result (λ x. x.0 ≡ node StructKind (dtype_view dtype.now) rows [] (layouts_of (with_validity validity.now groups.now (all_laid_out (plans_view plans.now) (fields_view fields.now) rows (drop (validity_count validity.now) groups.now))))) }
+    ensures layout { IfOk result
+        (λ x. x.0 ≡ node StructKind (dtype_view dtype.now) rows []
+        (layouts_of (with_validity validity.now groups.now
+        (all_laid_out (plans_view plans.now) (fields_view fields.now) rows (drop (validity_count validity.now) groups.now))))) }
 {
     let mut children = Vec::new(alloc);
     let first = push_validity(alloc, &mut children, validity, groups)?;

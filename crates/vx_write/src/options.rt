@@ -206,7 +206,9 @@ fn push_id(alloc: Global, ids: &mut Vec<String>, id: &str) -> Result<(), AllocEr
 
 /// The ids of arrays that are known and among these, or all that are known.
 fn known_ids(alloc: Global, enforces: bool, enabled: &[String]) -> Result<Vec<String>, AllocError>
-    ensures { IfOk result (λ ids. map string_bytes ids.items ≡ (if enforces then filter (is_among (map string_bytes enabled.now)) known_arrays else known_arrays)) }
+    ensures { IfOk result
+        (λ ids. map string_bytes ids.items ≡
+        (if enforces then filter (is_among (map string_bytes enabled.now)) known_arrays else known_arrays)) }
 {
     let mut ids = Vec::new(alloc);
     for id in &KNOWN_ARRAYS {

@@ -64,8 +64,12 @@ pub(crate) fn write_led<S: Sink>(
     buffers: &[ByteBuffer],
 ) -> Result<(), WriteError>
     requires { taken.old + length (lead_of_file taken.old ++ (replicate zeros 0 ++ joined buffers.now)) < 2 ^ 64 }
-    ensures ok { OnOk result (TookAll (lead_of_file taken.old ++ (replicate zeros 0 ++ joined buffers.now)) (S.state out.old).gained (S.state out.new).gained taken.old taken.new) }
-    ensures err { OnErr result (TookPart (lead_of_file taken.old ++ (replicate zeros 0 ++ joined buffers.now)) (S.state out.old).gained (S.state out.new).gained taken.old taken.new) }
+    ensures ok { OnOk result
+        (TookAll (lead_of_file taken.old ++ (replicate zeros 0 ++ joined buffers.now)) (S.state out.old).gained
+        (S.state out.new).gained taken.old taken.new) }
+    ensures err { OnErr result
+        (TookPart (lead_of_file taken.old ++ (replicate zeros 0 ++ joined buffers.now)) (S.state out.old).gained
+        (S.state out.new).gained taken.old taken.new) }
     ensures cause { SinkCause (S.state out.old) (S.state out.new) result }
     ensures only { Checked {B = Unit {0}} result (Ok tt) }
 {
@@ -138,8 +142,12 @@ impl Output {
         buffer: &ByteBuffer,
     ) -> Result<(), WriteError>
         requires { IsAlive self.old }
-        ensures ok { OnOk result (Wrote self.old (record { leaf = leaf; rows = rows; buffer = buffer.now } ∷ []) (S.state out.old).gained self.new (S.state out.new).gained) }
-        ensures err { OnErr result (Failed self.old (record { leaf = leaf; rows = rows; buffer = buffer.now } ∷ []) (S.state out.old).gained self.new (S.state out.new).gained) }
+        ensures ok { OnOk result
+            (Wrote self.old (record { leaf = leaf; rows = rows; buffer = buffer.now } ∷ []) (S.state out.old).gained self.new
+            (S.state out.new).gained) }
+        ensures err { OnErr result
+            (Failed self.old (record { leaf = leaf; rows = rows; buffer = buffer.now } ∷ []) (S.state out.old).gained self.new
+            (S.state out.new).gained) }
         ensures checked { Checked result (place_checks (buffer.now ∷ []) (segments_in self.old)) }
         ensures cause { SinkCause (S.state out.old) (S.state out.new) result }
     {

@@ -103,7 +103,8 @@ pub(crate) fn error_of(error: SinkError) -> WriteError
 /// Where the segment of buffers is to lie, behind so many segments and this offset.
 #[tactic(auto, unfolding(crate::specs::Sinks::place_checks))]
 pub(crate) fn place(count: usize, start: u64, buffers: &[ByteBuffer]) -> Result<Placing, WriteError>
-    ensures checked { (specs : List SegmentSpec) → count ≡ length specs → Gives FailsToWrite (λ _. tt) result (place_checks buffers.now (record { specs = specs; offset = start })) }
+    ensures checked { (specs : List SegmentSpec) → count ≡ length specs
+        → Gives FailsToWrite (λ _. tt) result (place_checks buffers.now (record { specs = specs; offset = start })) }
     ensures spec { IfOk result (λ placing. placing.spec ≡ spec_of start buffers.now) }
     ensures zeros { IfOk result (λ placing. placing.zeros ≡ zeros_before start buffers.now) }
     ensures next { IfOk result (λ placing. placing.next ≡ behind start buffers.now) }

@@ -89,8 +89,12 @@ fn write_chunk<S: Sink>(
     chunk: &Chunk,
 ) -> Result<(), WriteError>
     requires { IsAlive output.old }
-    ensures ok { OnOk result (Wrote output.old (encoded_chunk coding.now (chunk_view chunk.now) ∷ []) (S.state out.old).gained output.new (S.state out.new).gained) }
-    ensures err { OnErr result (Failed output.old (encoded_chunk coding.now (chunk_view chunk.now) ∷ []) (S.state out.old).gained output.new (S.state out.new).gained) }
+    ensures ok { OnOk result
+        (Wrote output.old (encoded_chunk coding.now (chunk_view chunk.now) ∷ []) (S.state out.old).gained output.new
+        (S.state out.new).gained) }
+    ensures err { OnErr result
+        (Failed output.old (encoded_chunk coding.now (chunk_view chunk.now) ∷ []) (S.state out.old).gained output.new
+        (S.state out.new).gained) }
     ensures checked { Checked result (chunk_checks coding.now output.old (chunk_view chunk.now)) }
     ensures cause { SinkCause (S.state out.old) (S.state out.new) result }
 {
@@ -114,8 +118,12 @@ pub(crate) fn write_chunks<S: Sink>(
     chunks: &[Chunk],
 ) -> Result<(), WriteError>
     requires { IsAlive output.old }
-    ensures ok { OnOk result (Wrote output.old (encoded_chunks coding.now (chunks_view chunks.now)) (S.state out.old).gained output.new (S.state out.new).gained) }
-    ensures err { OnErr result (Failed output.old (encoded_chunks coding.now (chunks_view chunks.now)) (S.state out.old).gained output.new (S.state out.new).gained) }
+    ensures ok { OnOk result
+        (Wrote output.old (encoded_chunks coding.now (chunks_view chunks.now)) (S.state out.old).gained output.new
+        (S.state out.new).gained) }
+    ensures err { OnErr result
+        (Failed output.old (encoded_chunks coding.now (chunks_view chunks.now)) (S.state out.old).gained output.new
+        (S.state out.new).gained) }
     ensures checked { Checked result (chunks_checks coding.now output.old (chunks_view chunks.now)) }
     ensures cause { SinkCause (S.state out.old) (S.state out.new) result }
 {

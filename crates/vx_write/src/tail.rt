@@ -99,7 +99,9 @@ fn tree_of(
     requires fit { IsFor (plan_view plan.now) (dtype_view dtype.now) }
     requires full { AreFull rows (grouped (leaf_count (plan_view plan.now)) laid.now) }
     requires few { length laid.now < 2 ^ 32 }
-    ensures value { IfOk result (λ layout. layout ≡ laid_out (plan_view plan.now) (dtype_view dtype.now) rows (grouped (leaf_count (plan_view plan.now)) laid.now)) }
+    ensures value { IfOk result
+        (λ layout. layout ≡ laid_out (plan_view plan.now) (dtype_view dtype.now) rows
+        (grouped (leaf_count (plan_view plan.now)) laid.now)) }
     ensures typed { IfOk result (λ layout. dtype_of_layout layout ≡ dtype_view dtype.now) }
 {
     let groups = group(alloc, leaves, laid)?;
