@@ -9,6 +9,8 @@ pub mod Prepares
 pub mod ReaderOpenings
 pub mod Serves
 pub mod JoiningLemmas
+pub mod KeptLemmas
+pub mod NamedLemmas
 pub mod KeepingLemmas
 pub mod ReadingLemmas
 pub mod ScanningLemmas

@@ -1,6 +1,7 @@
 pub mod Buffers
 pub mod Covered
 pub mod Hints
+pub mod KeptFooters
 pub mod Loading
 pub mod Logs
 pub mod Memory

@@ -3,10 +3,12 @@
 
 mod column_joining;
 mod covered;
+mod footers;
 mod layout_readers;
 mod layout_reading;
 mod memory;
 mod metadata;
+mod named_footers;
 mod open_options;
 mod opened;
 mod opening;
@@ -28,6 +30,7 @@ mod step;
 mod steps;
 mod vortex_file;
 
+pub use footers::{MOST_WEIGHT, MultiFileSession};
 pub use layout_readers::{FileLayoutReader, ScanFile};
 pub use memory::serve_in_memory;
 pub use metadata::MetadataValue;

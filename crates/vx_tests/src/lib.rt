@@ -16,6 +16,8 @@ mod footers;
 #[cfg(test)]
 mod four_values;
 #[cfg(test)]
+mod kept_footers;
+#[cfg(test)]
 mod layouts;
 #[cfg(test)]
 mod merging;

@@ -1,0 +1,55 @@
+//! Footers that are kept by name, with ample memory.
+use crate::footers::{file, read};
+use std::alloc::Global;
+use std::test::Fail;
+use vx_base::SegmentId;
+use vx_data::{DType, Layout};
+use vx_file::{MOST_WEIGHT, MultiFileSession};
+use vx_footer::Footer;
+
+// A footer whose size is not known, and which weighs ten.
+fn unknown(alloc: Global) -> Result<Footer, Fail> {
+    let layout = Layout::flat(alloc, DType::Bool(false), 3, SegmentId(0))?;
+    Ok(Footer::new(alloc, layout, Vec::new(alloc), None, Vec::new(alloc))?)
+}
+
+// Whether a footer is kept by a name, which goes to the front.
+fn is_kept(alloc: Global, kept: &mut MultiFileSession, name: &str) -> Result<bool, Fail> {
+    Ok(kept.get_footer(alloc, name)?.is_some())
+}
+
+#[test]
+fn footers_are_kept_by_their_names(rt: HostRuntime) -> Result<(), Fail> {
+    let alloc = rt.alloc();
+    let mut kept = MultiFileSession::new(alloc)?;
+    let bytes = file(alloc)?;
+    let footer = read(alloc, bytes.as_slice())?.ok_or("no footer")?;
+    // One of 281 bytes weighs one, also where it is put again.
+    for name in ["a", "b", "a"] {
+        kept.put_footer(alloc, name, &footer)?;
+    }
+    assert_eq!(rt; kept.weight(), 2);
+    assert!(rt; is_kept(alloc, &mut kept, "a")?);
+    assert!(rt; !is_kept(alloc, &mut kept, "c")?);
+    let found = kept.get_footer(alloc, "b")?.ok_or("not kept")?;
+    assert_eq!(rt; found.row_count(), 4);
+    Ok(())
+}
+
+#[test]
+fn the_footer_that_was_used_least_recently_goes(rt: HostRuntime) -> Result<(), Fail> {
+    let alloc = rt.alloc();
+    let mut kept = MultiFileSession::new(alloc)?;
+    let footer = unknown(alloc)?;
+    for number in 0..10_240 {
+        let name = format!(in alloc; "{number}")?;
+        kept.put_footer(alloc, name.as_str(), &footer)?;
+    }
+    assert_eq!(rt; kept.weight(), MOST_WEIGHT);
+    assert!(rt; is_kept(alloc, &mut kept, "0")?);
+    kept.put_footer(alloc, "more", &footer)?;
+    assert_eq!(rt; kept.weight(), MOST_WEIGHT);
+    assert!(rt; is_kept(alloc, &mut kept, "0")?);
+    assert!(rt; !is_kept(alloc, &mut kept, "1")?);
+    Ok(())
+}
