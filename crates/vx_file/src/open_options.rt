@@ -101,6 +101,77 @@ impl<C: SegmentCache> VortexOpenOptions<C> {
         &self.session
     }
 
+    /// The same with how many bytes the first read asks for, at least.
+    pub fn with_initial_read_size(self, initial_read_size: usize) -> VortexOpenOptions<C>
+        ensures options { result.options ≡ record self.options { initial = initial_read_size } }
+        ensures session { result.session ≡ self.session }
+        ensures cache { result.cache ≡ self.cache }
+    {
+        let VortexOpenOptions {
+            session,
+            options,
+            cache,
+        } = self;
+        VortexOpenOptions {
+            session,
+            options: options.with_initial_read_size(initial_read_size),
+            cache,
+        }
+    }
+
+    /// The same with the size of the file, which is then not asked.
+    pub fn with_file_size(self, file_size: u64) -> VortexOpenOptions<C>
+        ensures options { result.options ≡ record self.options { size = Some file_size } }
+        ensures session { result.session ≡ self.session }
+        ensures cache { result.cache ≡ self.cache }
+    {
+        self.with_some_file_size(Some(file_size))
+    }
+
+    /// The same with the size of the file, if it is known.
+    pub fn with_some_file_size(self, file_size: Option<u64>) -> VortexOpenOptions<C>
+        ensures options { result.options ≡ record self.options { size = file_size } }
+        ensures session { result.session ≡ self.session }
+        ensures cache { result.cache ≡ self.cache }
+    {
+        let VortexOpenOptions {
+            session,
+            options,
+            cache,
+        } = self;
+        VortexOpenOptions {
+            session,
+            options: options.with_some_file_size(file_size),
+            cache,
+        }
+    }
+
+    /// The same with another cache of segments.
+    pub fn with_segment_cache<D: SegmentCache>(self, cache: D) -> VortexOpenOptions<D>
+        ensures options { result.options ≡ self.options }
+        ensures session { result.session ≡ self.session }
+        ensures cache { result.cache ≡ cache }
+    {
+        let VortexOpenOptions {
+            session,
+            options,
+            cache: _cache,
+        } = self;
+        VortexOpenOptions {
+            session,
+            options,
+            cache,
+        }
+    }
+
+    /// The same without a cache of segments.
+    pub fn without_segment_cache(self) -> VortexOpenOptions<NoCache>
+        ensures options { result.options ≡ self.options }
+        ensures session { result.session ≡ self.session }
+    {
+        self.with_segment_cache(NoCache)
+    }
+
     /// The same with the type of the rows, which is used in place of the file's own.
     pub fn with_dtype(self, dtype: DType) -> VortexOpenOptions<C>
         ensures options { result.options ≡ record self.options { dtype = Some (dtype_view dtype) } }
