@@ -1,5 +1,6 @@
 pub mod Answering
 pub mod Buffers
+pub mod CachedLemmas
 pub mod Covering
 pub mod Loadings
 pub mod Looking

@@ -1,4 +1,5 @@
 pub mod Buffers
+pub mod Cached
 pub mod Covered
 pub mod Hints
 pub mod KeptFooters

@@ -1,6 +1,7 @@
 //! Opens a file from its tail, answers scripts of requests for its segments, skips it, and gives its rows.
 #![tactic(auto)]
 
+mod cached;
 mod column_joining;
 mod covered;
 mod footers;
@@ -30,6 +31,7 @@ mod step;
 mod steps;
 mod vortex_file;
 
+pub use cached::{CachedError, open_cached};
 pub use footers::{MOST_WEIGHT, MultiFileSession};
 pub use layout_readers::{FileLayoutReader, ScanFile};
 pub use memory::serve_in_memory;

@@ -21,7 +21,7 @@ pub enum OpenPathError {
     /// The file was refused, or could not be read.
     #[error("{0}")]
     Serve(ServeError),
-    /// Memory for the reader ran out.
+    /// Memory ran out.
     #[error("out of memory")]
     OutOfMemory,
 }
@@ -55,6 +55,7 @@ impl<C: SegmentCache> VortexOpenOptions<C> {
         };
         match self.open_read(alloc, reader) {
             Ok(file) => Ok(file),
+            Err(ServeError::OutOfMemory) => Err(OpenPathError::OutOfMemory),
             Err(error) => Err(OpenPathError::Serve(error)),
         }
     }

@@ -1,10 +1,11 @@
 //! Footers that are kept by name, with ample memory.
 use crate::footers::{file, read};
+use crate::serving::{self, FOUR};
 use std::alloc::Global;
 use std::test::Fail;
-use vx_base::SegmentId;
-use vx_data::{DType, Layout};
-use vx_file::{MOST_WEIGHT, MultiFileSession};
+use vx_base::{MemReader, SegmentId};
+use vx_data::{DType, Layout, VortexSession};
+use vx_file::{CachedError, MOST_WEIGHT, MultiFileSession, open_cached};
 use vx_footer::Footer;
 
 // A footer whose size is not known, and which weighs ten.
@@ -51,5 +52,35 @@ fn the_footer_that_was_used_least_recently_goes(rt: HostRuntime) -> Result<(), F
     assert_eq!(rt; kept.weight(), MOST_WEIGHT);
     assert!(rt; is_kept(alloc, &mut kept, "0")?);
     assert!(rt; !is_kept(alloc, &mut kept, "1")?);
+    Ok(())
+}
+
+// How many ranges are asked to open the four-value file by a key, unless that is missing.
+fn asked(
+    alloc: Global,
+    kept: &mut MultiFileSession,
+    key: Option<&str>,
+) -> Result<Option<usize>, Fail> {
+    let session = VortexSession::new(alloc)?;
+    let bytes = serving::file(alloc, FOUR)?;
+    let reader = MemReader::new(alloc, bytes, None, None, 8, Vec::new(alloc))?;
+    match open_cached(alloc, &session, kept, key, reader, None, |options| options) {
+        Ok(mut file) if file.row_count() == 4 => {
+            Ok(Some(file.segment_source().reader().asked().len()))
+        }
+        Err(CachedError::MissingKey) => Ok(None),
+        _ => Err(Fail::from("not opened")),
+    }
+}
+
+#[test]
+fn a_file_whose_footer_is_kept_opens_without_a_read(rt: HostRuntime) -> Result<(), Fail> {
+    let alloc = rt.alloc();
+    let mut kept = MultiFileSession::new(alloc)?;
+    assert_eq!(rt; asked(alloc, &mut kept, None)?, None);
+    assert_eq!(rt; asked(alloc, &mut kept, Some("f"))?, Some(1));
+    assert_eq!(rt; asked(alloc, &mut kept, Some("f"))?, Some(0));
+    assert_eq!(rt; asked(alloc, &mut kept, Some("g"))?, Some(1));
+    assert_eq!(rt; kept.weight(), 2);
     Ok(())
 }
