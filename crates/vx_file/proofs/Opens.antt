@@ -75,7 +75,7 @@ chained-ends size (Ok f) g h = extent-ends size f g h
 chained-ends size (Err e) g h = let no : ⊥ = cc in absurd no
 
 -- the segments of a file of the grammar end within it
-grammar-ends : (file : List ℕ) (dtype : Option Dtype) (g : FooterContent) → vx_grammar file dtype ≡ Ok g → list_all (ends_within (length file)) (segment_table g) ≡ true
+pub grammar-ends : (file : List ℕ) (dtype : Option Dtype) (g : FooterContent) → vx_grammar file dtype ≡ Ok g → list_all (ends_within (length file)) (segment_table g) ≡ true
 unfolding vx_grammar
 grammar-ends file dtype g h = chained-ends (length file) (footer_of file dtype) g h
 

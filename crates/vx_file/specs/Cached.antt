@@ -1,8 +1,10 @@
 -- Opening a file whose footer may be kept.
-use Rattle.std.specs.Prelude.{ℕ, List, Option, Some, None}
+use Rattle.std.specs.Prelude.{◌≡◌, ℕ, ◌<◌, ◌^◌, false, List, [], length, Option, Some, None, Ok}
 use Rattle.vx_data.specs.Layout.{dtype_of}
 use Rattle.vx_footer.specs.Footers.{FooterValue}
-use Rattle.vx_file.specs.Hints.{Hints}
+use Rattle.vx_footer.specs.Opening.{vx_grammar}
+use Rattle.vx_file.specs.Hints.{Hints, IsSizeOf}
+use Rattle.vx_file.specs.Plans.{plan_of}
 
 -- by a footer that is kept, with its type of the rows
 abbrev pub with_kept : Option FooterValue → Hints → Hints
@@ -18,3 +20,9 @@ known_by kept (Some size) hints = with_kept kept (record hints { size = Some siz
 abbrev pub key_of : Option (List ℕ) → Option (List ℕ) → Option (List ℕ)
 key_of None uri = uri
 key_of (Some key) uri = Some key
+
+-- a footer that is the file's own opens it to the same footer, without a read; the size, where it is known, is the file's
+abbrev pub OpensTheSame : Type 0
+OpensTheSame = (hints : Hints) (file : List ℕ) (footer : FooterValue) → length file < 2 ^ 64 → IsSizeOf hints.size file
+    → vx_grammar file hints.dtype ≡ Ok footer.content
+    → plan_of (with_kept (Some footer) hints) file ≡ record { footer = vx_grammar file hints.dtype; asks_size = false; ranges = []; start = None }

@@ -4,7 +4,7 @@ ghost use Rattle.std.specs.Map.{lookup};
 ghost use Rattle.std.specs.Option.{option_map};
 ghost use Rattle.std.specs.Str.{bytes_eq};
 ghost use Rattle.lru.specs.LruCache.{promoted};
-ghost use Rattle.vx_file.specs.Cached.{known_by, key_of};
+ghost use Rattle.vx_file.specs.Cached.{known_by, key_of, OpensTheSame};
 ghost use Rattle.vx_file.specs.Hints.{no_hints};
 ghost use Rattle.vx_file.specs.KeptFooters.{kept_after};
 ghost use Rattle.vx_file.specs.OpenRead.{OpensBy, FailsBy};
@@ -164,3 +164,9 @@ pub fn open_cached<
     let chosen = options(plain);
     footers.open_kept(alloc, name.as_str(), reader, chosen, file_size)
 }
+
+/// A kept footer that is the file's own opens it to the footer of its tail, without a read.
+#[tactic(auto, using(crate::proofs::CachedLemmas::opens_the_same))]
+pub fn kept_footer_opens_the_same()
+    ensures { OpensTheSame }
+{}

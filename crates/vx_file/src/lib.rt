@@ -31,7 +31,7 @@ mod step;
 mod steps;
 mod vortex_file;
 
-pub use cached::{CachedError, open_cached};
+pub use cached::{CachedError, kept_footer_opens_the_same, open_cached};
 pub use footers::{MOST_WEIGHT, MultiFileSession};
 pub use layout_readers::{FileLayoutReader, ScanFile};
 pub use memory::serve_in_memory;
