@@ -122,3 +122,22 @@ fn rows_are_split(rt: HostRuntime) -> Result<(), Fail> {
     assert!(rt; found.as_slice() == [3, 14, 7].as_slice());
     Ok(())
 }
+
+#[test]
+fn columns_have_sizes(rt: HostRuntime) -> Result<(), Fail> {
+    let alloc = rt.alloc();
+    let cases = [
+        ("{a:i32?,b:text}", "(1,x)\n(~,%)\n", [12, 11].as_slice()),
+        ("i32", "1\n2\n", [10].as_slice()),
+    ];
+    for (dtype, text, wanted) in cases {
+        let dtype = DType::from_text(alloc, dtype).ok().ok_or("no type")?;
+        let chunks = vec![in alloc; rows(alloc, &dtype, text)?]?;
+        let options = VortexWriteOptions::new(alloc, VortexSession::new(alloc)?)?;
+        let mut out = MemSink::new(alloc, Vec::new(alloc));
+        let summary = write_rows(alloc, options, &mut out, dtype, &chunks)?;
+        let sizes = summary.compressed_column_sizes(alloc)?;
+        assert_eq!(rt; sizes.as_slice(), wanted);
+    }
+    Ok(())
+}

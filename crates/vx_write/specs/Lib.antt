@@ -1,3 +1,4 @@
+pub mod ColumnSizes
 pub mod Column
 pub mod Writing
 pub mod Sinks

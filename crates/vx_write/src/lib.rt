@@ -2,6 +2,7 @@
 #![tactic(auto)]
 
 mod column;
+mod column_sizes;
 mod column_stats;
 mod counted;
 mod counting;

@@ -1,9 +1,11 @@
 //! A file that was written.
-ghost use Rattle.std.specs.Prelude.{◌≡◌, IfOk};
-ghost use Rattle.vx_footer.specs.FieldSizes.{SizesGiven};
+ghost use Rattle.std.specs.Prelude.{◌≡◌, Err, IfOk};
+ghost use Rattle.vx_footer.specs.declared.sizes_error.SizesError.{SizesError};
+ghost use Rattle.vx_write.specs.ColumnSizes.{HasColumnSizes, RefusesSizes};
 
+use crate::column_sizes::column_sizes;
 use std::alloc::Global;
-use vx_footer::{CompressedFieldSizes, Footer, SizesError};
+use vx_footer::{Footer, SizesError};
 
 /// A file that was written: its footer, how many bytes it has, and how many rows.
 #[derive(Drop)]
@@ -46,5 +48,14 @@ impl WriteSummary {
         ensures { result ≡ self.now.row_count }
     {
         self.row_count
+    }
+
+    /// How many bytes each column takes: the fields in their order, where the rows are structs, nothing for a field that
+    /// has no layout; or else the whole. A segment that the layout names and the file has not is refused.
+    pub fn compressed_column_sizes(&self, alloc: Global) -> Result<Vec<u64>, SizesError>
+        ensures value { let f = self.now.footer.content in IfOk result (λ sizes. HasColumnSizes f.layout f.segments sizes.items) }
+        ensures refused { let f = self.now.footer.content in (e : SizesError) → result ≡ Err e → RefusesSizes f.layout f.segments e }
+    {
+        column_sizes(alloc, &self.footer)
     }
 }
