@@ -48,4 +48,6 @@ mod serving;
 #[cfg(test)]
 mod sessions;
 #[cfg(test)]
+mod streams;
+#[cfg(test)]
 mod tables;

@@ -22,6 +22,8 @@ pub mod EndLemmas
 pub mod LayingTurns
 pub mod OptionsLemmas
 pub mod RowsLemmas
+pub mod StreamLemmas
+pub mod StreamedLemmas
 pub mod BeginLemmas
 pub mod FeedLemmas
 pub mod HoldingLemmas

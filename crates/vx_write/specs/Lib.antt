@@ -10,6 +10,7 @@ pub mod Leaves
 pub mod LeafCodes
 pub mod Plans
 pub mod Chunks
+pub mod ChunkSources
 pub mod Feeding
 pub mod Gathered
 pub mod Holding
@@ -22,3 +23,4 @@ pub mod Standing
 pub mod Taken
 pub mod Written
 pub mod OpensAgain
+pub mod Streamed

@@ -1,6 +1,7 @@
 //! Writes files of rows, which open again.
 #![tactic(auto)]
 
+mod chunk_source;
 mod column;
 mod column_sizes;
 mod column_stats;
@@ -26,19 +27,23 @@ mod planning;
 mod read_back;
 mod segment_sink;
 mod sending;
+mod session_ext;
 mod splitting;
 mod strategy;
+mod streaming;
 mod summary;
 mod tail;
 mod whole_file;
 mod write_error;
 mod writing;
 
+pub use chunk_source::{ChunkError, ChunkSource, VecChunks};
 pub use counting::CountingVortexWrite;
 pub use cut_laws::pushes_may_be_divided;
 pub use options::VortexWriteOptions;
 pub use read_back::written_rows_are_read;
 pub use segment_sink::BufferedSegmentSink;
+pub use session_ext::WriteOptionsSessionExt;
 pub use strategy::{FlatStrategy, LayoutStrategy, LeafStrategy, WriteStrategyBuilder};
 pub use summary::WriteSummary;
 pub use whole_file::write_rows;
