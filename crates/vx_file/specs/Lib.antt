@@ -17,5 +17,6 @@ pub mod Tails
 pub mod Scans
 pub mod Kept
 pub mod Scanned
+pub mod ReaderScans
 pub mod Splits
 pub mod LayoutReaders
