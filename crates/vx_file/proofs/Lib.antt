@@ -16,3 +16,4 @@ pub mod KeepingLemmas
 pub mod ReadingLemmas
 pub mod ScanningLemmas
 pub mod SplitLemmas
+pub mod ReaderScanning

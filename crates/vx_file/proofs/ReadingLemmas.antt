@@ -13,6 +13,7 @@ use Rattle.vx_data.specs.Dtype.{Dtype, bool, int, text, struct}
 use Rattle.vx_data.specs.Layout.{LayoutTree, Layouts, node, no_layouts, a_layout, layouts_of, kind_of, segments_of, children_of, child_dtypes, has_shape, rows_sum, tree_size, trees_size, Fits, dtype_of as type_of_tree, rows_of as tree_rows}
 use Rattle.vx_rows.specs.LayoutRows.{rows_of, rows_of_all, flat_rows, node_rows, joined}
 use Rattle.vx_rows.specs.Trees.{array}
+use Rattle.vx_rows.specs.declared.array_error.ArrayError.{ArrayError}
 use Rattle.vx_rows.specs.Rows.{Rows, dtype_of, rows_len, IsColumn}
 use Rattle.vx_base.specs.Buffer.{Buffer, bytes_at}
 use Rattle.vx_base.specs.Counts.{Rises}
@@ -22,7 +23,7 @@ use Rattle.vx_source.specs.Bytes.{IsSlice}
 use Rattle.vx_source.specs.Sources.{SourceState, SameSource, SegmentCause}
 use Rattle.vx_file.specs.declared.scan_error.ScanError.{ScanError}
 use Rattle.vx_file.specs.declared.scan_error.ScanError.TheVariants.{Segment, BadArray, UnknownEncoding, OutOfMemory}
-use Rattle.vx_file.specs.Scans.{FlatLayout, flats_of, flats_of_all, bytes_in, array_in, DecodeFails, CanBeRead, FailsAt, FirstFails, ScanFails, IsRead, AreRead, NamesFirst, IsOf, AreParts, structs_over, has_rows}
+use Rattle.vx_file.specs.Scans.{FlatLayout, flats_of, flats_of_all, bytes_in, array_in, DecodeFails, CanBeRead, FailsAt, FirstFails, ScanFails, IsRead, AreRead, NamesFirst, SourceFails, IsOf, AreParts, structs_over, has_rows}
 
 -- ---- the first that fails
 
@@ -206,6 +207,19 @@ cause-earlier s a b c found h x = record {
   fault = λ f e. let p = x.fault f e in (rises-earlier a.faults b.faults c.faults h.never_falls p.0, subst (λ (t : List SegmentSpec). s < length t) h.table p.1);
   cache = λ e. let p = x.cache e in (rises-earlier a.cache_faults b.cache_faults c.cache_faults h.cache_never_falls p.0, subst (λ (t : List SegmentSpec). s < length t) h.table p.1);
 }
+
+pub source_earlier : (a b c : SourceState) (e : ScanError) → SameSource a b → SourceFails b c e → SourceFails a c e
+source_earlier a b c (Segment id e) h x = (x.0, cause-earlier id.0 a b c (Err e) h x.1)
+source_earlier a b c (BadArray id) h x = x
+source_earlier a b c (UnknownEncoding id) h x = x
+source_earlier a b c OutOfMemory h x = x
+
+-- bytes that are not decoded are no fault of the source
+pub decode_quiet : (a c : SourceState) (s : ℕ) (answer : Result Rows ArrayError) (e : ScanError) → DecodeFails s answer e → SourceFails a c e
+decode_quiet a c s answer (Segment id e) h = absurd h
+decode_quiet a c s answer (BadArray id) h = tt
+decode_quiet a c s answer (UnknownEncoding id) h = tt
+decode_quiet a c s answer OutOfMemory h = tt
 
 module _ (bytes : ℕ → Option (List ℕ)) (ids : List (List ℕ)) where
   fails-earlier : (a b c : SourceState) (e : ScanError) (f : FlatLayout) → SameSource a b → FailsAt bytes ids b c e f → FailsAt bytes ids a c e f

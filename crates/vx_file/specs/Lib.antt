@@ -19,5 +19,6 @@ pub mod Tails
 pub mod Scans
 pub mod Kept
 pub mod Scanned
+pub mod ReaderScans
 pub mod Splits
 pub mod LayoutReaders

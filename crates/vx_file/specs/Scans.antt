@@ -91,6 +91,13 @@ abbrev pub ScanFails : Segments → List (List ℕ) → SourceState → SourceSt
 ScanFails bytes ids before now fs OutOfMemory = Unit {0}
 ScanFails bytes ids before now fs e = FirstFails (CanBeRead bytes ids) (FailsAt bytes ids before now e) fs
 
+-- what an error tells of the source, whatever that serves
+abbrev pub SourceFails : SourceState → SourceState → ScanError → Type 0
+SourceFails before now (Segment id e) = (e ≡ source_error.OutOfMemory → ⊥) × SegmentCause id.0 before now (Err e)
+SourceFails before now (BadArray id) = Unit {0}
+SourceFails before now (UnknownEncoding id) = Unit {0}
+SourceFails before now OutOfMemory = Unit {0}
+
 -- ---- what reading answers, for every file that the source serves
 
 -- a column is the rows of a layout

@@ -7,7 +7,7 @@ ghost use Rattle.vx_rows.specs.Rows.{column_view};
 ghost use Rattle.vx_source.specs.Sources.{SameSource};
 ghost use Rattle.vx_file.specs.declared.scan_error.ScanError.{ScanError};
 ghost use Rattle.vx_file.specs.Scans.{seen, array_in, flats_of, flats_of_all, IsOf, AreParts};
-ghost use Rattle.vx_file.specs.Scans.{IsRead, AreRead, NamesFirst, DecodeFails};
+ghost use Rattle.vx_file.specs.Scans.{IsRead, AreRead, NamesFirst, DecodeFails, SourceFails};
 
 use crate::ScanError;
 use crate::column_joining::{join, zip};
@@ -52,7 +52,10 @@ fn read_flat<S: SegmentSource>(
     ensures typed { IfOk result (λ c. IsOf layout.now (column_view c)) }
     ensures fails { let flats = flats_of layout.now in (e : ScanError) → result ≡ Err e →
         NamesFirst (S.serves source.old) (S.state source.old) (S.state source.new) (map string_bytes ids.now) flats e }
+    ensures cause { (e : ScanError) → result ≡ Err e → SourceFails (S.state source.old) (S.state source.new) e }
     ensures serves { (file : List ℕ) → S.serves source.old file → S.serves source.new file }
+    ensures steady { (file : List ℕ) → S.never_fails source.old file →
+        S.never_fails source.new file × ((S.state source.new).faults ≡ (S.state source.old).faults) }
     ensures same { SameSource (S.state source.old) (S.state source.new) }
 {
     let id = segment_of(layout);
@@ -96,7 +99,10 @@ fn read_children<S: SegmentSource>(
         IfOk result (λ cs. AreParts (kind_of t) (type_of_tree t) (tree_rows t) (seen cs.items)) }
     ensures fails { let flats = flats_of_all (children_of layout.now) in (e : ScanError) → result ≡ Err e →
         NamesFirst (S.serves source.old) (S.state source.old) (S.state source.new) (map string_bytes ids.now) flats e }
+    ensures cause { (e : ScanError) → result ≡ Err e → SourceFails (S.state source.old) (S.state source.new) e }
     ensures serves { (file : List ℕ) → S.serves source.old file → S.serves source.new file }
+    ensures steady { (file : List ℕ) → S.never_fails source.old file →
+        S.never_fails source.new file × ((S.state source.new).faults ≡ (S.state source.old).faults) }
     ensures same { SameSource (S.state source.old) (S.state source.new) }
 {
     let children = layout.fitted_children();
@@ -122,7 +128,10 @@ pub(crate) fn read_layout<S: SegmentSource>(
     ensures typed { IfOk result (λ c. IsOf layout.now (column_view c)) }
     ensures fails { let flats = flats_of layout.now in (e : ScanError) → result ≡ Err e →
         NamesFirst (S.serves source.old) (S.state source.old) (S.state source.new) (map string_bytes ids.now) flats e }
+    ensures cause { (e : ScanError) → result ≡ Err e → SourceFails (S.state source.old) (S.state source.new) e }
     ensures serves { (file : List ℕ) → S.serves source.old file → S.serves source.new file }
+    ensures steady { (file : List ℕ) → S.never_fails source.old file →
+        S.never_fails source.new file × ((S.state source.new).faults ≡ (S.state source.old).faults) }
     ensures same { SameSource (S.state source.old) (S.state source.new) }
 {
     match layout.kind() {

@@ -6,7 +6,7 @@ ghost use Rattle.vx_rows.specs.ReadRows.{no_rows};
 ghost use Rattle.vx_rows.specs.Rows.{column_view, rows_len, dtype_of, IsColumn};
 ghost use Rattle.vx_source.specs.Sources.{SameSource};
 ghost use Rattle.vx_file.specs.declared.scan_error.ScanError.{ScanError};
-ghost use Rattle.vx_file.specs.Scans.{NamesFirst, flats_of};
+ghost use Rattle.vx_file.specs.Scans.{NamesFirst, SourceFails, flats_of};
 ghost use Rattle.vx_file.specs.Scanned.{is_skipped, filter_of, matching, IsScanned, ScanStopped};
 
 use crate::ScanError;
@@ -86,7 +86,10 @@ fn read_matching<S: SegmentSource>(
         IfOk result (λ c. IsScanned (S.serves source.old) (S.state source.old) f b (column_view c)) }
     ensures fails { let f = footer.now.content in (e : ScanError) → result ≡ Err e →
         NamesFirst (S.serves source.old) (S.state source.old) (S.state source.new) f.array_ids (flats_of f.layout) e }
+    ensures cause { (e : ScanError) → result ≡ Err e → SourceFails (S.state source.old) (S.state source.new) e }
     ensures serves { (file : List ℕ) → S.serves source.old file → S.serves source.new file }
+    ensures steady { (file : List ℕ) → S.never_fails source.old file →
+        S.never_fails source.new file × ((S.state source.new).faults ≡ (S.state source.old).faults) }
     ensures same { SameSource (S.state source.old) (S.state source.new) }
 {
     let column = read_layout(alloc, source, footer.layout(), footer.array_ids())?;
@@ -106,7 +109,10 @@ pub fn scan_rows<S: SegmentSource>(
     ensures fails { let f = footer.now.content in (e : ScanError) → result ≡ Err e →
         ScanStopped (S.serves source.old) (S.state source.old) (S.state source.new) f (filter_of filter.now) e }
     ensures unread { is_skipped (filter_of filter.now) footer.now.content ≡ true → source.new ≡ source.old }
+    ensures cause { (e : ScanError) → result ≡ Err e → SourceFails (S.state source.old) (S.state source.new) e }
     ensures serves { (file : List ℕ) → S.serves source.old file → S.serves source.new file }
+    ensures steady { (file : List ℕ) → S.never_fails source.old file →
+        S.never_fails source.new file × ((S.state source.new).faults ≡ (S.state source.old).faults) }
     ensures same { SameSource (S.state source.old) (S.state source.new) }
 {
     if skips(filter, footer) {

@@ -72,6 +72,7 @@ pub script-fails : (c : Command) (file : ℕ) (source source_now : SourceState) 
 script-fails c file source source_now files failures.Usage reads line wanted told leaves h = absurd h
 script-fails c file source source_now files failures.MissingSegment reads line wanted told leaves h = absurd h
 script-fails c file source source_now files (failures.Unbound error) reads line wanted told leaves h = absurd h
+script-fails c file source source_now files (failures.Undecoded error) reads line wanted told leaves h = absurd h
 script-fails c file source source_now files (failures.Unwritten error) reads line wanted told leaves h = absurd h
 script-fails c file source source_now files (failures.Line number) reads line wanted told leaves h = record {
   each = λ out. record {
@@ -109,6 +110,7 @@ pub serve-fails : (s : serve.Serve) (steps : List Step) (source source_now : Sou
 serve-fails s steps source source_now files files_now failures.Usage script h = absurd h
 serve-fails s steps source source_now files files_now failures.MissingSegment script h = absurd h
 serve-fails s steps source source_now files files_now (failures.Unbound error) script h = absurd h
+serve-fails s steps source source_now files files_now (failures.Undecoded error) script h = absurd h
 serve-fails s steps source source_now files files_now (failures.Unwritten error) script h = absurd h
 serve-fails s steps source source_now files files_now (failures.Line line) script h = absurd h
 serve-fails s steps source source_now files files_now (failures.Refused refusal) script h = record {
@@ -127,7 +129,7 @@ serve-fails s steps source source_now files files_now (failures.Read fault) scri
     asks = record { named = refl; input = (steps, script); asked = h.0; out = refl };
     back = h.1;
     rose = h.2;
-    lacks = h.3;
+    lacks = λ file e sized. inl (h.3 file e sized);
   };
 }
 serve-fails s steps source source_now files files_now failures.Input script h = absurd h
@@ -177,6 +179,7 @@ pub demo-fails : (d : demo.Demo) (steps : List Step) (source source_now : Source
 demo-fails d steps source source_now files failures.Usage h = absurd h
 demo-fails d steps source source_now files failures.MissingSegment h = absurd h
 demo-fails d steps source source_now files (failures.Unbound error) h = absurd h
+demo-fails d steps source source_now files (failures.Undecoded error) h = absurd h
 demo-fails d steps source source_now files (failures.Unwritten error) h = absurd h
 demo-fails d steps source source_now files (failures.Line line) h = absurd h
 demo-fails d steps source source_now files (failures.Refused refusal) h = absurd h

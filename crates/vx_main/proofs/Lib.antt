@@ -7,10 +7,13 @@ pub mod Lines
 pub mod Lists
 pub mod Openings
 pub mod MetadataLemmas
+pub mod NameScans
 pub mod OptionLemmas
 pub mod Performing
 pub mod PruneArms
+pub mod RowLines
 pub mod RowTypes
+pub mod ScanArms
 pub mod StatusRows
 pub mod Streaming
 pub mod TableArms

@@ -37,6 +37,7 @@ script-cause before now text (Err failures.Usage) read h = absurd h
 script-cause before now text (Err (failures.Refused refusal)) read h = absurd h
 script-cause before now text (Err failures.MissingSegment) read h = absurd h
 script-cause before now text (Err (failures.Unbound error)) read h = absurd h
+script-cause before now text (Err (failures.Undecoded error)) read h = absurd h
 script-cause before now text (Err (failures.Unwritten error)) read h = absurd h
 script-cause before now text (Err (failures.Read fault)) read h = absurd h
 script-cause before now text (Err failures.Input) read h = absurd h
@@ -55,16 +56,16 @@ pub record Lent (name : List ℕ) (settings : ReaderSettings) (before now : Open
   pub counted : now.read_faults ≡ min (before.read_faults + served.faults) last_count
   pub never_falls : before.read_faults ≤ now.read_faults
 
-rises-through : (by before now opened served : ℕ) → opened ≡ 0 → now ≡ min (before + served) last_count → before ≤ now → Rises by opened served → Rises by before now
+pub rises-through : (by before now opened served : ℕ) → opened ≡ 0 → now ≡ min (before + served) last_count → before ≤ now → Rises by opened served → Rises by before now
 rises-through by before now opened served none counted later h = record { later = later; risen = omega (arith, h.later, h.risen) }
 
 fresh-log : (gained : Log) (before now : Option Log) → before ≡ Some [] → Grew gained before now → now ≡ Some gained
 fresh-log gained before now fresh h = h ∙ ap (λ log. option_map (λ l. l ++ gained) log) fresh
 
-gave-back : (name : List ℕ) (settings : ReaderSettings) (before now : OpenerState) (opened served : ReaderState) → Lent name settings before now opened served → GaveBack name before now
+pub gave-back : (name : List ℕ) (settings : ReaderSettings) (before now : OpenerState) (opened served : ReaderState) → Lent name settings before now opened served → GaveBack name before now
 gave-back name settings before now opened served lent = record { log = served.log; returned = lent.returned }
 
-gives-back : (name : List ℕ) (settings : ReaderSettings) (before now : OpenerState) (opened served : ReaderState) (gained : Log) → Lent name settings before now opened served → Grew gained opened.log served.log → GivesBack name before now gained
+pub gives-back : (name : List ℕ) (settings : ReaderSettings) (before now : OpenerState) (opened served : ReaderState) (gained : Log) → Lent name settings before now opened served → Grew gained opened.log served.log → GivesBack name before now gained
 gives-back name settings before now opened served gained lent grew = record {
   log = served.log;
   returned = lent.returned;
@@ -88,7 +89,7 @@ serves-file plan include cache cache_now file name script settings before now op
       bad = rises-through (bad_spans h.serves.prepares.spans + bad_replies s.replies) before.read_faults now.read_faults opened.faults served.faults lent.faultless lent.counted lent.never_falls h.bad;
     })
 
-lacks : (plan : Plan) (name : List ℕ) (fault : Fault) (settings : ReaderSettings) (before now : OpenerState) (opened served : ReaderState) (cache_now : CacheState) → Lent name settings before now opened served
+pub lacks : (plan : Plan) (name : List ℕ) (fault : Fault) (settings : ReaderSettings) (before now : OpenerState) (opened served : ReaderState) (cache_now : CacheState) → Lent name settings before now opened served
     → SizeFault plan opened served fault ⊎ TailFault plan opened served fault ⊎ MetadataFault plan opened served cache_now (cause.Fault fault) → LacksFile plan settings name fault before now
 lacks plan name fault settings before now opened served cache_now lent (inl h) = inl (record { asks = h.asks; is = h.is; back = gives-back name settings before now opened served [] lent h.asked })
 lacks plan name fault settings before now opened served cache_now lent (inr (inl h)) = inr (inl (record {
@@ -111,7 +112,7 @@ lacks plan name fault settings before now opened served cache_now lent (inr (inr
       (grew-then (opened_ranges plan.ranges) (asked_by h.fails.fetched.spans) opened.log h.between.log served.log h.asked h.fails.asks.log);
 }))
 
-refuses : (plan : Plan) (name : List ℕ) (refusal : OpenError) (settings : ReaderSettings) (before now : OpenerState) (opened served : ReaderState) → Lent name settings before now opened served → RefusedFrom plan opened served refusal → RefusesFile plan name refusal before now
+pub refuses : (plan : Plan) (name : List ℕ) (refusal : OpenError) (settings : ReaderSettings) (before now : OpenerState) (opened served : ReaderState) → Lent name settings before now opened served → RefusedFrom plan opened served refusal → RefusesFile plan name refusal before now
 refuses plan name refusal settings before now opened served lent h = record { fails = h.fails; back = gives-back name settings before now opened served _ lent h.asked }
 
 pub file-cause : (hints : Hints) (chosen : ReaderSettings → ReaderSettings) (cache cache_now : CacheState) (name : List ℕ) (script : List Step) (before now : OpenerState) (opened served : ReaderState) (answer : Result Served Failure)
@@ -124,6 +125,7 @@ file-cause hints chosen cache cache_now name script before now opened served (Er
 file-cause hints chosen cache cache_now name script before now opened served (Err (failures.Line line)) lent first last given read = absurd read
 file-cause hints chosen cache cache_now name script before now opened served (Err failures.MissingSegment) lent first last given read = absurd read
 file-cause hints chosen cache cache_now name script before now opened served (Err (failures.Unbound error)) lent first last given read = absurd read
+file-cause hints chosen cache cache_now name script before now opened served (Err (failures.Undecoded error)) lent first last given read = absurd read
 file-cause hints chosen cache cache_now name script before now opened served (Err (failures.Unwritten error)) lent first last given read = absurd read
 file-cause hints chosen cache cache_now name script before now opened served (Err failures.Usage) lent first last given read = absurd read
 file-cause hints chosen cache cache_now name script before now opened served (Err failures.Input) lent first last given read = absurd read

@@ -24,6 +24,7 @@ leaves-same (commands.Serve s) files = inl (record { asked = refl; returned = re
 leaves-same (commands.Demo d) files = refl
 leaves-same (commands.Sizes s) files = inl (record { asked = refl; returned = refl })
 leaves-same (commands.Prune p) files = inl (record { asked = refl; returned = refl })
+leaves-same (commands.Scan s) files = inl (record { asked = refl; returned = refl })
 leaves-same (commands.Write w) files = refl
 
 -- the words were no command, or there was no memory for it
@@ -36,6 +37,7 @@ unparsed command before (failures.Line line) h = absurd h
 unparsed command before (failures.Refused refusal) h = absurd h
 unparsed command before failures.MissingSegment h = absurd h
 unparsed command before (failures.Unbound error) h = absurd h
+unparsed command before (failures.Undecoded error) h = absurd h
 unparsed command before (failures.Unwritten error) h = absurd h
 unparsed command before (failures.Read fault) h = absurd h
 unparsed command before failures.Input h = absurd h
@@ -57,6 +59,7 @@ leaves-of (commands.Serve s) source source_now files files_now answer h out = in
 leaves-of (commands.Demo d) source source_now files files_now answer h out = (h.each out).is.files
 leaves-of (commands.Sizes s) source source_now files files_now answer h out = inr (record { asked = (h.each out).is.asked; back = inl (h.each out).is.back })
 leaves-of (commands.Prune p) source source_now files files_now answer h out = inr (record { asked = (h.each out).is.asked; back = inl (h.each out).is.back })
+leaves-of (commands.Scan s) source source_now files files_now answer h out = inr (record { asked = (h.each out).is.asked; back = inl (h.each out).is.back })
 leaves-of (commands.Write w) source source_now files files_now answer h out = (h.each out).is.files
 
 -- what is answered does not depend on the output
@@ -68,6 +71,7 @@ again (commands.Serve s) source source_now files files_now out out' now' answer 
 again (commands.Demo d) source source_now files files_now out out' now' answer h = record { served = h.served; is = h.is; steps = h.steps; script = h.script; demonstrates = h.demonstrates; files = h.files }
 again (commands.Sizes s) source source_now files files_now out out' now' answer h = record { sizes = h.sizes; is = h.is; source = h.source; asked = h.asked; back = h.back; measures = h.measures }
 again (commands.Prune p) source source_now files files_now out out' now' answer h = record { skipped = h.skipped; is = h.is; source = h.source; asked = h.asked; back = h.back; judges = h.judges }
+again (commands.Scan s) source source_now files files_now out out' now' answer h = record { rows = h.rows; is = h.is; source = h.source; asked = h.asked; back = h.back; predicate = h.predicate; spells = h.spells; scans = h.scans }
 again (commands.Write w) source source_now files files_now out out' now' answer h = record { table = h.table; is = h.is; reads = h.reads; files = h.files }
 
 -- only a file has memory run out beside the output
@@ -78,6 +82,7 @@ is-text (commands.Serve s) before now answer h plain = ap is_text h.is
 is-text (commands.Demo d) before now answer h plain = ap is_text h.is
 is-text (commands.Sizes s) before now answer h plain = ap is_text h.is
 is-text (commands.Prune p) before now answer h plain = ap is_text h.is
+is-text (commands.Scan s) before now answer h plain = ap is_text h.is
 is-text (commands.Write w) before now answer h plain = absurd cc
 
 -- no text is a file
@@ -87,6 +92,7 @@ not-file answers.Version text = refl
 not-file (answers.Served served) text = refl
 not-file (answers.Sizes sizes) text = refl
 not-file (answers.Pruned skipped) text = refl
+not-file (answers.Rows rows) text = refl
 not-file (answers.File f) text = absurd cc
 
 -- what printing a text leaves is what writing it does
@@ -112,6 +118,7 @@ module _ (c : Command) (source source_now : SourceState) (files files_now : Open
   shown (Err (failures.Refused refusal)) w = absurd w
   shown (Err failures.MissingSegment) w = absurd w
   shown (Err (failures.Unbound error)) w = absurd w
+  shown (Err (failures.Undecoded error)) w = absurd w
   shown (Err (failures.Unwritten error)) w = record {
     answer = answer;
     is = given.is;

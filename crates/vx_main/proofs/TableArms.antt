@@ -26,6 +26,7 @@ table-cause before now text (Err failures.Usage) read h = absurd h
 table-cause before now text (Err (failures.Refused refusal)) read h = absurd h
 table-cause before now text (Err failures.MissingSegment) read h = absurd h
 table-cause before now text (Err (failures.Unbound error)) read h = absurd h
+table-cause before now text (Err (failures.Undecoded error)) read h = absurd h
 table-cause before now text (Err (failures.Unwritten error)) read h = absurd h
 table-cause before now text (Err (failures.Read fault)) read h = absurd h
 table-cause before now text (Err failures.Input) read h = absurd h
@@ -53,6 +54,7 @@ pub write-fails : (w : WriteValue) (source source_now : SourceState) (files : Op
 write-fails w source source_now files failures.Usage h = absurd h
 write-fails w source source_now files failures.MissingSegment h = absurd h
 write-fails w source source_now files (failures.Unbound error) h = absurd h
+write-fails w source source_now files (failures.Undecoded error) h = absurd h
 write-fails w source source_now files (failures.Unwritten error) h = absurd h
 write-fails w source source_now files (failures.Line line) h = record {
   each = λ out. record {

@@ -51,6 +51,7 @@ unopened c name source files files_now (failures.Refused refusal) o h = record {
 }
 unopened c name source files files_now failures.MissingSegment o h = absurd h
 unopened c name source files files_now (failures.Unbound error) o h = absurd h
+unopened c name source files files_now (failures.Undecoded error) o h = absurd h
 unopened c name source files files_now (failures.Unwritten error) o h = absurd h
 unopened c name source files files_now (failures.Read fault) o h = record {
   each = λ out. record {
@@ -58,7 +59,7 @@ unopened c name source files files_now (failures.Read fault) o h = record {
     asks = record { named = o.named; input = untouched c source o.silent; asked = h.0; out = refl };
     back = h.1;
     rose = h.2;
-    lacks = λ file e sized. subst (λ settings. LacksFile (plan_of (hints_of c) file) settings name fault files files_now) (sym (o.chosen (files.settings name))) (h.3 file e sized);
+    lacks = λ file e sized. inl (subst (λ settings. LacksFile (plan_of (hints_of c) file) settings name fault files files_now) (sym (o.chosen (files.settings name))) (h.3 file e sized));
   };
 }
 unopened c name source files files_now failures.Input o h = absurd h

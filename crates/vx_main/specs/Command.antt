@@ -6,17 +6,18 @@ use Rattle.vx_base.specs.Readers.{ReaderSettings}
 use Rattle.vx_data.specs.Dtype.{Dtype}
 use Rattle.vx_data.specs.TextsRead.{dtype_of_text}
 use Rattle.vx_main.specs.declared.command.Command.{Command}
-use Rattle.vx_main.specs.declared.command.Command.TheVariants.{Help, Version, Serve, Demo, Sizes, Prune, Write}
+use Rattle.vx_main.specs.declared.command.Command.TheVariants.{Help, Version, Serve, Demo, Sizes, Prune, Scan, Write}
 use Rattle.vx_file.specs.Hints.{Hints, no_hints}
 use Rattle.vx_main.specs.declared.commands.demo.TheConstants.{MOST_VALUES}
 use Rattle.vx_main.specs.declared.commands.serve.Serve as serve
 use Rattle.vx_main.specs.declared.commands.sizes.Sizes as sizes
 use Rattle.vx_main.specs.declared.commands.prune.Prune as prune
+use Rattle.vx_main.specs.declared.commands.scan.Scan as scan
 use Rattle.vx_prune.specs.PredicateWords.{predicate_of}
 use Rattle.vx_main.specs.declared.failure.Failure.{Failure}
 use Rattle.vx_main.specs.declared.failure.Failure.TheVariants as failures
 use Rattle.vx_main.specs.Numbers.{value_of}
-use Rattle.vx_main.specs.Options.{OptionShape, once, are_options, values_of, optional_number}
+use Rattle.vx_main.specs.Options.{OptionShape, once, last, are_options, values_of, optional_number}
 use Rattle.vx_main.specs.WriteWords.{WriteValue, write_shapes, metadata_of}
 use Rattle.vx_main.specs.Reading.{ReadingValue, plain_reading, reading_of, settings_by}
 
@@ -138,6 +139,30 @@ abbrev pub prune_of : List (List ℕ) → Option Command
 prune_of [] = None
 prune_of (word ∷ words) = option_map (λ p. Prune p) (prune_behind (name_of word) words)
 
+-- the type of the rows, and words that spell a predicate, which stand last
+abbrev pub scan_shapes : List OptionShape
+scan_shapes = once (codes "--dtype") 1 ∷ last (codes "--filter") ∷ []
+
+-- the predicate that the values of an option spell, where it is given
+abbrev pub optional_filter : Option (List (List ℕ)) → Option (Option (List (List ℕ)))
+optional_filter None = Some None
+optional_filter (Some words) = option_map (λ filter. Some filter) (filter_of words)
+
+abbrev pub scan_filtered : List ℕ → Option (Option Dtype) → Option (Option (List (List ℕ))) → Option scan.Scan
+scan_filtered name None filter = None
+scan_filtered name (Some d) filter = option_map (λ f. record { name = name; dtype = d; filter = f }) filter
+
+abbrev pub scan_behind : Option (List ℕ) → List (List ℕ) → Option scan.Scan
+scan_behind None words = None
+scan_behind (Some name) words =
+    if are_options scan_shapes words
+    then scan_filtered name (optional_dtype (values_of scan_shapes (codes "--dtype") words)) (optional_filter (values_of scan_shapes (codes "--filter") words))
+    else None
+
+abbrev pub scan_of : List (List ℕ) → Option Command
+scan_of [] = None
+scan_of (word ∷ words) = option_map (λ s. Scan s) (scan_behind (name_of word) words)
+
 -- a number from one on, where it is given
 abbrev pub positive : Option (Option ℕ) → Option (Option ℕ)
 positive None = None
@@ -177,7 +202,7 @@ demo_of words =
     if nat_lt 0 (length words) && nat_le (length words) MOST_VALUES
     then option_map (λ values. Demo (record { values = values })) (all_values words) else None
 
--- `--help` and `--version` alone, `serve NAME ..`, `sizes NAME ..`, `prune NAME ..`, `demo V ..`, or `write ..`
+-- `--help` and `--version` alone, `serve NAME ..`, `sizes NAME ..`, `prune NAME ..`, `scan NAME ..`, `demo V ..`, or `write ..`
 abbrev pub command_of : List (List ℕ) → Option Command
 command_of [] = None
 command_of (word ∷ words) =
@@ -185,6 +210,7 @@ command_of (word ∷ words) =
     else if bytes_eq word (codes "demo") then demo_of words
     else if bytes_eq word (codes "sizes") then sizes_of words
     else if bytes_eq word (codes "prune") then prune_of words
+    else if bytes_eq word (codes "scan") then scan_of words
     else if bytes_eq word (codes "write") then write_of words
     else if bytes_eq word (codes "--help") then alone Help words
     else if bytes_eq word (codes "--version") then alone Version words
@@ -208,6 +234,9 @@ sizes_hints s = record { size = None; initial = 0; dtype = s.dtype; footer = Non
 abbrev pub prune_hints : prune.Prune → Hints
 prune_hints p = record { size = None; initial = 0; dtype = p.dtype; footer = None; metadata = false }
 
+abbrev pub scan_hints : scan.Scan → Hints
+scan_hints s = record { size = None; initial = 0; dtype = s.dtype; footer = None; metadata = false }
+
 -- what it is told of the file that it opens
 abbrev pub hints_of : Command → Hints
 hints_of Help = no_hints
@@ -216,6 +245,7 @@ hints_of (Serve s) = serve_hints s
 hints_of (Demo d) = no_hints
 hints_of (Sizes s) = sizes_hints s
 hints_of (Prune p) = prune_hints p
+hints_of (Scan s) = scan_hints s
 hints_of (Write w) = no_hints
 
 -- the settings with which it reads, by those of the reader
@@ -226,6 +256,7 @@ settings_of_command (Serve s) own = settings_by s.reading own
 settings_of_command (Demo d) own = own
 settings_of_command (Sizes s) own = settings_by plain_reading own
 settings_of_command (Prune p) own = settings_by plain_reading own
+settings_of_command (Scan s) own = own
 settings_of_command (Write w) own = own
 
 -- the names of the files that it opens
@@ -236,6 +267,7 @@ names_of (Serve s) = s.name ∷ []
 names_of (Demo d) = []
 names_of (Sizes s) = s.name ∷ []
 names_of (Prune p) = p.name ∷ []
+names_of (Scan s) = s.name ∷ []
 names_of (Write w) = []
 
 -- whether it reads its input
@@ -246,6 +278,7 @@ reads_input (Serve s) = true
 reads_input (Demo d) = true
 reads_input (Sizes s) = false
 reads_input (Prune p) = false
+reads_input (Scan s) = false
 reads_input (Write w) = true
 
 -- whether what it writes to the output is a file, as it comes
@@ -256,4 +289,5 @@ writes_file (Serve s) = false
 writes_file (Demo d) = false
 writes_file (Sizes s) = false
 writes_file (Prune p) = false
+writes_file (Scan s) = false
 writes_file (Write w) = true

@@ -7,6 +7,9 @@ use Rattle.vx_footer.specs.declared.error.OpenError.{OpenError}
 use Rattle.vx_footer.specs.Footers.{FooterContent}
 use Rattle.vx_footer.specs.Opening.{vx_grammar}
 use Rattle.vx_footer.specs.declared.write_error.WriteError.{WriteError}
+use Rattle.vx_base.specs.declared.segment.SegmentId.{SegmentId}
+use Rattle.vx_data.specs.Layout.{dtype_of as type_of_tree}
+use Rattle.vx_rows.specs.declared.array_error.ArrayError.{ArrayError}
 use Rattle.vx_rows.specs.declared.bind_error.BindError.{BindError}
 use Rattle.vx_rows.specs.Predicates.{Pred}
 use Rattle.vx_prune.specs.PredicateWords.{predicate_of}
@@ -17,18 +20,21 @@ use Rattle.vx_sched.specs.declared.fault.Place.TheVariants.{Size, Range}
 use Rattle.vx_file.specs.declared.step.Step.{Step}
 use Rattle.vx_main.specs.declared.answer.Answer.{Answer}
 use Rattle.vx_main.specs.declared.command.Command.{Command}
-use Rattle.vx_main.specs.declared.command.Command.TheVariants.{Help, Version, Serve, Demo, Sizes, Prune, Write}
+use Rattle.vx_main.specs.declared.command.Command.TheVariants.{Help, Version, Serve, Demo, Sizes, Prune, Scan, Write}
 use Rattle.vx_main.specs.declared.failure.Failure.{Failure}
 use Rattle.vx_main.specs.declared.failure.Failure.TheVariants as failures
 use Rattle.vx_file.specs.Hints.{IsSizeOf}
 use Rattle.vx_file.specs.Plans.{plan_of}
-use Rattle.vx_main.specs.Command.{names_of, reads_input, writes_file, hints_of, settings_of_command}
+use Rattle.vx_file.specs.ReaderScans.{IsMissing, IsUndecoded, IsThere, filter_on}
+use Rattle.vx_file.specs.Scans.{FlatLayout, Segments}
+use Rattle.vx_main.specs.Command.{names_of, reads_input, writes_file, hints_of, settings_of_command, scan_hints}
 use Rattle.vx_main.specs.Input.{ReadsScript, BadLine, BadLength}
 use Rattle.vx_main.specs.Tables.{BadTableLine}
 use Rattle.vx_main.specs.Outputs.{IsAnswer, text_of, unwritten, Deserves, LacksSegment}
 use Rattle.vx_main.specs.Outside.{Outside}
-use Rattle.vx_main.specs.Refusals.{refusal_words, bind_error_words, write_error_words}
+use Rattle.vx_main.specs.Refusals.{refusal_words, bind_error_words, array_error_words, write_error_words}
 use Rattle.vx_main.specs.Render.{fault_words}
+use Rattle.vx_main.specs.Scans.{OfSpelled, StopsFile}
 use Rattle.vx_main.specs.Served.{GaveBack, LeavesOpener, RefusesFile, LacksFile}
 
 -- ---- statuses and lines
@@ -39,6 +45,7 @@ status_of (failures.Line line) = 3
 status_of (failures.Refused refusal) = 4
 status_of failures.MissingSegment = 4
 status_of (failures.Unbound error) = 4
+status_of (failures.Undecoded error) = 4
 status_of (failures.Unwritten error) = 4
 status_of (failures.Read fault) = 5
 status_of failures.Input = 6
@@ -58,6 +65,7 @@ failure_words (failures.Line line) = codes "line " ++ decimal line
 failure_words (failures.Refused refusal) = refusal_words refusal
 failure_words failures.MissingSegment = codes "MissingSegment"
 failure_words (failures.Unbound error) = bind_error_words error
+failure_words (failures.Undecoded error) = array_error_words error
 failure_words (failures.Unwritten error) = write_error_words error
 failure_words (failures.Read fault) = codes "read " ++ read_words fault fault.place
 failure_words failures.Input = codes "input"
@@ -109,14 +117,19 @@ pub record OpenFault (c : Command) (before now : Outside) (name : List ℕ) : Ty
   pub asks : Asks c before now name
   pub rose : Rises 1 before.files.faults now.files.faults
 
--- the file could not be read, and its reader was given back
+-- the first flat layout that cannot be read of the file that a command scans fails so
+abbrev pub StopsScan : Command → List ℕ → (Segments → List (List ℕ) → FlatLayout → Type 0) → Type 0
+StopsScan (Scan s) file Fails = OfSpelled s.filter (λ p. StopsFile (plan_of (scan_hints s) file) p file Fails)
+StopsScan _ file Fails = ⊥
+
+-- the file could not be read, or its first flat layout that cannot be, and its reader was given back
 pub record ReadFault (c : Command) (before now : Outside) (fault : Fault) : Type 0 where
   pub name : List ℕ
   pub asks : Asks c before now name
   pub back : GaveBack name before.files now.files
   pub rose : Rises 1 before.files.read_faults now.files.read_faults
   pub lacks : (file : List ℕ) → before.files.file name ≡ Some file → IsSizeOf (hints_of c).size file →
-      LacksFile (plan_of (hints_of c) file) (settings_of_command c (before.files.settings name)) name fault before.files now.files
+      LacksFile (plan_of (hints_of c) file) (settings_of_command c (before.files.settings name)) name fault before.files now.files ⊎ StopsScan c file IsThere
 
 -- the file fails an opening check, and its reader was given back
 pub record Refusal (c : Command) (before now : Outside) (refusal : OpenError) : Type 0 where
@@ -127,17 +140,23 @@ pub record Refusal (c : Command) (before now : Outside) (refusal : OpenError) : 
       RefusesFile (plan_of (hints_of c) file) name refusal before.files now.files
   pub deserved : Deserves c before 4
 
+-- the layout of a file names a segment that the file has not
+abbrev pub LacksOne : Command → List ℕ → Type 0
+LacksOne (Scan s) file = (id : SegmentId) × StopsScan (Scan s) file (IsMissing id)
+LacksOne c file = LacksSegment (hints_of c) file
+
 -- the layout of the file names a segment that the file has not, and its reader was given back
 pub record Lacking (c : Command) (before now : Outside) : Type 0 where
   pub name : List ℕ
   pub asks : Asks c before now name
   pub back : GaveBack name before.files now.files
-  pub lacks : (file : List ℕ) → before.files.file name ≡ Some file → LacksSegment (hints_of c) file
+  pub lacks : (file : List ℕ) → before.files.file name ≡ Some file → LacksOne c file
   pub deserved : Deserves c before 4
 
 -- why the predicate of a command is not one on the rows of a file
 abbrev pub Misfits : Command → FooterContent → BindError → Type 0
 Misfits (Prune p) footer error = (predicate : Pred) × (predicate_of p.filter ≡ Some predicate) × (pruned predicate footer ≡ Err error)
+Misfits (Scan s) footer error = OfSpelled s.filter (λ p. filter_on p (type_of_tree footer.layout) ≡ Err error)
 Misfits _ footer error = ⊥
 
 -- a file of the grammar on whose rows it is none
@@ -152,6 +171,14 @@ pub record Misfit (c : Command) (before now : Outside) (error : BindError) : Typ
   pub asks : Asks c before now name
   pub back : GaveBack name before.files now.files
   pub misfits : (file : List ℕ) → before.files.file name ≡ Some file → MisfitsFile c file error
+  pub deserved : Deserves c before 4
+
+-- the bytes of a segment of the file are no array of the rows that its layout tells, and its reader was given back
+pub record Undecodable (c : Command) (before now : Outside) (error : ArrayError) : Type 0 where
+  pub name : List ℕ
+  pub asks : Asks c before now name
+  pub back : GaveBack name before.files now.files
+  pub stops : (file : List ℕ) → before.files.file name ≡ Some file → (id : SegmentId) × StopsScan c file (IsUndecoded error id)
   pub deserved : Deserves c before 4
 
 -- a check refuses the file of the answer, and a prefix of it stands on the output
@@ -186,6 +213,7 @@ LeavesFiles (Serve s) before now = LeavesOpener s.name before now
 LeavesFiles (Demo d) before now = now ≡ before
 LeavesFiles (Sizes s) before now = LeavesOpener s.name before now
 LeavesFiles (Prune p) before now = LeavesOpener p.name before now
+LeavesFiles (Scan s) before now = LeavesOpener s.name before now
 LeavesFiles (Write w) before now = now ≡ before
 
 -- memory ran out
@@ -204,6 +232,7 @@ HasCause c before now (failures.Read fault) = ReadFault c before now fault
 HasCause c before now (failures.Refused refusal) = Refusal c before now refusal
 HasCause c before now failures.MissingSegment = Lacking c before now
 HasCause c before now (failures.Unbound error) = Misfit c before now error
+HasCause c before now (failures.Undecoded error) = Undecodable c before now error
 HasCause c before now (failures.Unwritten error) = NotWritten c before now error
 HasCause c before now failures.Output = OutputFault c before now
 HasCause c before now failures.OutOfMemory = Stopped c before now

@@ -2,7 +2,7 @@
 use Rattle.std.specs.Prelude.{ℕ, List, ◌++◌, codes}
 
 abbrev pub what_help : List ℕ
-what_help = codes "vx serves the segments of columnar files, tells how large fields are, skips\nfiles, and writes them.\n\n"
+what_help = codes "vx serves the segments of columnar files, tells how large fields are, skips\nfiles, prints their rows, and writes them.\n\n"
 
 abbrev pub usage_help : List ℕ
 usage_help = codes "usage: vx COMMAND\n\n"
@@ -42,6 +42,12 @@ sizes_help = codes "  sizes NAME    prints how many bytes each field of the file
 
 abbrev pub prune_help : List ℕ
 prune_help = codes "  prune NAME P  prints whether the file NAME can be skipped, since no row of it\n                satisfies the predicate P; a --dtype stands in front of P\n"
+
+abbrev pub scan_help : List ℕ
+scan_help = codes "  scan NAME     prints the type of the rows of the file NAME, and the rows\n      --dtype D     the rows have the type D: the file's own is not read\n"
+
+abbrev pub scan_filter_help : List ℕ
+scan_filter_help = codes "      --filter P    only the rows that satisfy the predicate P; it stands last\n"
 
 abbrev pub demo_help : List ℕ
 demo_help = codes "  demo V ..     serves a file of the values V, 1 to 8192 numbers of 32 bits,\n                which it writes to memory\n"
@@ -103,7 +109,7 @@ example_help = codes "example\n  printf 'r 0\\np 0\\n' | vx demo 1 2 3 4\n"
 abbrev pub help_text : List ℕ
 help_text =
     what_help ++ usage_help ++ commands_help ++ serve_help ++ serve_more_help ++ size_help ++ initial_help ++ dtype_help
-    ++ meta_help ++ distance_help ++ reads_help ++ cache_help ++ sizes_help ++ prune_help ++ demo_help ++ write_help
+    ++ meta_help ++ distance_help ++ reads_help ++ cache_help ++ sizes_help ++ prune_help ++ scan_help ++ scan_filter_help ++ demo_help ++ write_help
     ++ write_options_help ++ write_blocks_help ++ write_more_help ++ texts_help ++ options_help ++ script_help ++ register_help ++ poll_help
     ++ drop_help ++ drive_help ++ predicates_help ++ nodes_help ++ statuses_help ++ statuses_2_help ++ statuses_3_help ++ statuses_4_help
     ++ example_help

@@ -13,7 +13,9 @@ pub mod Reading
 pub mod Refusals
 pub mod Render
 pub mod RowsFiles
+pub mod RowsText
 pub mod Runs
+pub mod Scans
 pub mod Script
 pub mod Served
 pub mod Sizes

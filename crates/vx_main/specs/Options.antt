@@ -21,6 +21,10 @@ once word values = record { word = word; values = values; repeats = false; is_la
 abbrev pub repeated : List ℕ → ℕ → OptionShape
 repeated word values = record { word = word; values = values; repeats = true; is_last = false }
 
+-- an option whose values are all words behind it
+abbrev pub last : List ℕ → OptionShape
+last word = record { word = word; values = 0; repeats = false; is_last = true }
+
 -- the option that a word names
 abbrev pub shape_named : List OptionShape → List ℕ → Option OptionShape
 shape_named shapes word = find (λ s. bytes_eq s.word word) shapes

@@ -10,18 +10,19 @@ use Rattle.vx_file.specs.declared.served.Served.{Served}
 use Rattle.vx_prune.specs.PredicateWords.{predicate_of}
 use Rattle.vx_rows.specs.declared.bind_error.BindError.{BindError}
 use Rattle.vx_rows.specs.Predicates.{Pred}
+use Rattle.vx_rows.specs.Rows.{Rows}
 use Rattle.vx_footer.specs.declared.write_error.WriteError.{WriteError}
 use Rattle.vx_write.specs.Column.{written}
 use Rattle.vx_main.specs.declared.answer.Answer.{Answer}
 use Rattle.vx_main.specs.declared.answer.Answer.TheVariants as answers
 use Rattle.vx_main.specs.declared.command.Command.{Command}
-use Rattle.vx_main.specs.declared.command.Command.TheVariants.{Help, Version, Serve, Demo, Sizes, Prune, Write}
+use Rattle.vx_main.specs.declared.command.Command.TheVariants.{Help, Version, Serve, Demo, Sizes, Prune, Scan, Write}
 use Rattle.vx_main.specs.declared.input.TheConstants.{MOST_INPUT}
 use Rattle.vx_file.specs.Hints.{Hints, IsSizeOf}
 use Rattle.vx_file.specs.Plans.{plan_of}
 use Rattle.vx_file.specs.Pruned.{pruned}
 use Rattle.vx_file.specs.Ranges.{tail_ranges, opened}
-use Rattle.vx_main.specs.Command.{serve_hints, sizes_hints, prune_hints}
+use Rattle.vx_main.specs.Command.{serve_hints, sizes_hints, prune_hints, scan_hints}
 use Rattle.vx_main.specs.Demo.{Demonstrates}
 use Rattle.vx_main.specs.Help.{help_text}
 use Rattle.vx_main.specs.Input.{ReadsScript}
@@ -32,6 +33,8 @@ use Rattle.vx_main.specs.Script.{script_of}
 use Rattle.vx_main.specs.Served.{ServesFile, GaveBack, GivesBack}
 use Rattle.vx_main.specs.SizesText.{sizes_text}
 use Rattle.vx_main.specs.RowsFiles.{bytes_of, refusal_of}
+use Rattle.vx_main.specs.RowsText.{rows_text}
+use Rattle.vx_main.specs.Scans.{Spells, ScansFile, spelled, opened_status}
 use Rattle.vx_main.specs.Tables.{TableValue, table_of, ReadsTable}
 use Rattle.vx_main.specs.WriteWords.{WriteValue}
 
@@ -51,6 +54,7 @@ text_of answers.Version = version_text
 text_of (answers.Served served) = render_text served
 text_of (answers.Sizes sizes) = sizes_text sizes.entries
 text_of (answers.Pruned skipped) = truth_text skipped
+text_of (answers.Rows rows) = rows_text rows
 text_of (answers.File f) = bytes_of f.arguments f.table
 
 -- why the file of an answer is not written whole, where a check refuses it
@@ -60,6 +64,7 @@ unwritten answers.Version = None
 unwritten (answers.Served served) = None
 unwritten (answers.Sizes sizes) = None
 unwritten (answers.Pruned skipped) = None
+unwritten (answers.Rows rows) = None
 unwritten (answers.File f) = refusal_of f.arguments f.table
 
 -- whether an answer is no file
@@ -69,6 +74,7 @@ is_text answers.Version = true
 is_text (answers.Served served) = true
 is_text (answers.Sizes sizes) = true
 is_text (answers.Pruned skipped) = true
+is_text (answers.Rows rows) = true
 is_text (answers.File f) = false
 
 -- the status that an answer brings
@@ -147,6 +153,19 @@ pub record IsJudged (hints : Hints) (words : List (List ℕ)) (name : List ℕ) 
   pub back : GaveBack name before.files now.files
   pub judges : (file : List ℕ) → before.files.file name ≡ Some file → Judges hints words file name before.files now.files (Ok skipped)
 
+-- ---- rows
+
+-- The rows of the file of a name, by the predicate of words where they are given; the input was not touched.
+pub record IsScanned (hints : Hints) (words : Option (List (List ℕ))) (name : List ℕ) (before now : Outside) (answer : Answer) : Type 0 where
+  pub rows : Rows
+  pub is : answer ≡ answers.Rows rows
+  pub source : now.source ≡ before.source
+  pub asked : AsksFor name before.files now.files
+  pub back : GaveBack name before.files now.files
+  pub predicate : Option Pred
+  pub spells : Spells words predicate
+  pub scans : (file : List ℕ) → before.files.file name ≡ Some file → ScansFile (plan_of hints file) predicate file name before.files now.files rows
+
 -- ---- a file
 
 -- the file of the rows that the input spells, and no file was opened
@@ -164,6 +183,7 @@ IsAnswer (Serve s) before now answer = IsServed (serve_hints s) s.reading s.name
 IsAnswer (Demo d) before now answer = IsDemonstrated d.values before now answer
 IsAnswer (Sizes s) before now answer = IsMeasured (sizes_hints s) s.name before now answer
 IsAnswer (Prune p) before now answer = IsJudged (prune_hints p) p.filter p.name before now answer
+IsAnswer (Scan s) before now answer = IsScanned (scan_hints s) s.filter s.name before now answer
 IsAnswer (Write w) before now answer = IsFile w before now answer
 
 -- ---- the status that a command deserves
@@ -211,6 +231,10 @@ abbrev pub judged_status : Hints → List (List ℕ) → Option (List ℕ) → �
 judged_status hints words None = 0
 judged_status hints words (Some file) = pruned_status words (vx_grammar file hints.dtype)
 
+abbrev pub scanned_status : Hints → Option (List (List ℕ)) → Option (List ℕ) → ℕ
+scanned_status hints words None = 0
+scanned_status hints words (Some file) = opened_status (spelled words) file (vx_grammar file hints.dtype)
+
 -- the status of the rows of an input, where they can be read
 abbrev pub table_status : WriteValue → Result TableValue ℕ → ℕ
 table_status w (Ok t) = refusal_status (refusal_of w t)
@@ -228,6 +252,7 @@ wanted_status (Serve s) before = input_status before.source.rest (file_status (s
 wanted_status (Demo d) before = input_status before.source.rest (grammar_status (vx_grammar (written d.values) None))
 wanted_status (Sizes s) before = measured_status (sizes_hints s) (before.files.file s.name)
 wanted_status (Prune p) before = judged_status (prune_hints p) p.filter (before.files.file p.name)
+wanted_status (Scan s) before = scanned_status (scan_hints s) s.filter (before.files.file s.name)
 wanted_status (Write w) before = rows_status w before.source.rest
 
 -- a size that is supplied is that of the file, where the file is told
@@ -243,6 +268,7 @@ IsTold (Serve s) before = (is_some before.source.rest ≡ true) × (is_some (bef
 IsTold (Demo d) before = is_some before.source.rest ≡ true
 IsTold (Sizes s) before = is_some (before.files.file s.name) ≡ true
 IsTold (Prune p) before = is_some (before.files.file p.name) ≡ true
+IsTold (Scan s) before = is_some (before.files.file s.name) ≡ true
 IsTold (Write w) before = is_some before.source.rest ≡ true
 
 abbrev pub Deserves : Command → Outside → ℕ → Type 0

@@ -5,6 +5,8 @@ use Rattle.vx_footer.specs.declared.error.OpenError.TheVariants as refusals
 use Rattle.vx_footer.specs.declared.error.Which.TheVariants as which
 use Rattle.vx_footer.specs.declared.write_error.WriteError.{WriteError}
 use Rattle.vx_footer.specs.declared.write_error.WriteError.TheVariants as write_error
+use Rattle.vx_rows.specs.declared.array_error.ArrayError.{ArrayError}
+use Rattle.vx_rows.specs.declared.array_error.ArrayError.TheVariants as undecoded
 use Rattle.vx_rows.specs.declared.bind_error.BindError.{BindError}
 use Rattle.vx_rows.specs.declared.bind_error.BindError.TheVariants as unbound
 
@@ -40,6 +42,12 @@ bind_error_words unbound.NoField = codes "NoField"
 bind_error_words unbound.TypeMismatch = codes "TypeMismatch"
 bind_error_words unbound.NarrowingCast = codes "NarrowingCast"
 bind_error_words unbound.OutOfMemory = codes "OutOfMemory"
+
+-- why the bytes of a segment are no array
+abbrev pub array_error_words : ArrayError → List ℕ
+array_error_words undecoded.BadArray = codes "BadArray"
+array_error_words undecoded.UnknownEncoding = codes "UnknownEncoding"
+array_error_words undecoded.OutOfMemory = codes "OutOfMemory"
 
 -- the check that refuses a file that is written
 abbrev pub write_error_words : WriteError → List ℕ

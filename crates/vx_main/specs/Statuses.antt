@@ -4,6 +4,7 @@ use Rattle.vx_base.specs.Openers.{OpenerState}
 use Rattle.vx_base.specs.Streams.{SinkState}
 use Rattle.vx_footer.specs.declared.error.OpenError.{OpenError}
 use Rattle.vx_footer.specs.declared.write_error.WriteError.{WriteError}
+use Rattle.vx_rows.specs.declared.array_error.ArrayError.{ArrayError}
 use Rattle.vx_rows.specs.declared.bind_error.BindError.{BindError}
 use Rattle.vx_sched.specs.declared.fault.Fault.{Fault}
 use Rattle.vx_main.specs.declared.command.Command.{Command}
@@ -24,12 +25,13 @@ pub record Says (c : Command) (before now : Outside) (err err_now : SinkState) (
 abbrev pub SaysLine : Command → Outside → Outside → SinkState → SinkState → Type 0
 SaysLine c before now err err_now = (line : ℕ) × Says c before now err err_now (failures.Line line)
 
--- The file fails some check, lacks a segment that its layout names, or has rows of which the predicate is none; or the file
--- of the rows is refused
+-- The file fails some check, lacks a segment that its layout names, has rows of which the predicate is none, or a segment that
+-- is no array; or the file of the rows is refused
 abbrev pub SaysRefused : Command → Outside → Outside → SinkState → SinkState → Type 0
 SaysRefused c before now err err_now =
     ((refusal : OpenError) × Says c before now err err_now (failures.Refused refusal)) ⊎ Says c before now err err_now failures.MissingSegment
     ⊎ ((error : BindError) × Says c before now err err_now (failures.Unbound error))
+    ⊎ ((error : ArrayError) × Says c before now err err_now (failures.Undecoded error))
     ⊎ ((error : WriteError) × Says c before now err err_now (failures.Unwritten error))
 
 -- some read failed

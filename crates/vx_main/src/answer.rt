@@ -7,10 +7,12 @@ ghost use Rattle.vx_main.specs.Text.{Adds, Writes};
 
 use crate::failure::Failure;
 use crate::print::help::put_help;
+use crate::print::rows::put_rows;
 use crate::print::served::put_served;
 use crate::print::sizes::put_sizes;
 use crate::print::truth::put_truth;
 use crate::printable::Printable;
+use crate::printable_rows::PrintableRows;
 use crate::rows_file::RowsFile;
 use crate::text::TextOut;
 use std::alloc::Global;
@@ -30,6 +32,8 @@ pub enum Answer<'a> {
     Sizes(CompressedFieldSizes),
     /// Whether the file can be skipped.
     Pruned(bool),
+    /// The rows of a file.
+    Rows(PrintableRows),
     /// A file of rows.
     File(RowsFile<'a>),
 }
@@ -56,6 +60,7 @@ impl<'a> Answer<'a> {
             Answer::Served(printable) => put_served(printable, text, out),
             Answer::Sizes(sizes) => put_sizes(sizes, text, out),
             Answer::Pruned(skipped) => put_truth(*skipped, text, out),
+            Answer::Rows(rows) => put_rows(rows, text, out),
             Answer::File(_) => unreachable!(),
         }
     }
@@ -91,7 +96,8 @@ impl<'a> Answer<'a> {
             | Answer::Version
             | Answer::Served(_)
             | Answer::Sizes(_)
-            | Answer::Pruned(_) => self.print_text(alloc, out),
+            | Answer::Pruned(_)
+            | Answer::Rows(_) => self.print_text(alloc, out),
             Answer::File(file) => file.write(alloc, out),
         }
     }

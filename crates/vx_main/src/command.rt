@@ -7,6 +7,7 @@ ghost use Rattle.vx_main.specs.Runs.{Gathers};
 use crate::answer::Answer;
 use crate::commands::demo::Demo;
 use crate::commands::prune::Prune;
+use crate::commands::scan::Scan;
 use crate::commands::serve::Serve;
 use crate::commands::sizes::Sizes;
 use crate::commands::write::Write;
@@ -29,6 +30,8 @@ pub enum Command<'a> {
     Sizes(Sizes<'a>),
     /// Print whether the file of a name can be skipped, since no row of it satisfies a predicate.
     Prune(Prune<'a>),
+    /// Print the rows of the file of a name, or those that satisfy a predicate.
+    Scan(Scan<'a>),
     /// Write the rows on the input as a file.
     Write(Write<'a>),
 }
@@ -64,6 +67,9 @@ impl<'a> Command<'a> {
         if word.as_str() == "prune" {
             return Prune::parse(alloc, rest);
         }
+        if word.as_str() == "scan" {
+            return Scan::parse(alloc, rest);
+        }
         if word.as_str() == "write" {
             return Write::parse(alloc, rest);
         }
@@ -93,6 +99,7 @@ impl<'a> Command<'a> {
             Command::Demo(demo) => demo.answer(alloc, input),
             Command::Sizes(sizes) => sizes.answer(alloc, files),
             Command::Prune(prune) => prune.answer(alloc, files),
+            Command::Scan(scan) => scan.answer(alloc, files),
             Command::Write(write) => write.answer(alloc, input),
         }
     }

@@ -7,12 +7,12 @@ ghost use Rattle.vx_base.specs.Streams.{SameSink};
 
 use crate::name::Name;
 use crate::print::fault::put_fault;
-use crate::refusal::{bind_error_name, refusal_name, write_error_name};
+use crate::refusal::{array_error_name, bind_error_name, refusal_name, write_error_name};
 use crate::text::TextOut;
 use std::alloc::{AllocError, Global};
 use vx_base::{Sink, SinkError};
 use vx_footer::{OpenError, WriteError};
-use vx_rows::BindError;
+use vx_rows::{ArrayError, BindError};
 use vx_sched::{Fault, Place};
 
 /// Why no text was printed, or not all of it.
@@ -28,6 +28,8 @@ pub enum Failure<'a> {
     MissingSegment,
     /// The predicate is not one on the rows of the file.
     Unbound(BindError),
+    /// The bytes of a segment are no array of the rows that the layout tells.
+    Undecoded(ArrayError),
     /// A check refuses the file of the rows.
     Unwritten(WriteError),
     /// The file could not be read.
@@ -75,6 +77,7 @@ impl<'a> Failure<'a> {
             Failure::Refused(_)
             | Failure::MissingSegment
             | Failure::Unbound(_)
+            | Failure::Undecoded(_)
             | Failure::Unwritten(_) => 4,
             Failure::Read(_) => 5,
             Failure::Input => 6,
@@ -97,6 +100,7 @@ impl<'a> Failure<'a> {
             Failure::Refused(refusal) => text.word(err, refusal_name(*refusal).as_bytes()),
             Failure::MissingSegment => text.word(err, b"MissingSegment"),
             Failure::Unbound(error) => text.word(err, bind_error_name(*error).as_bytes()),
+            Failure::Undecoded(error) => text.word(err, array_error_name(*error).as_bytes()),
             Failure::Unwritten(error) => text.word(err, write_error_name(*error).as_bytes()),
             Failure::Read(fault) => put_read(fault, text, err),
             Failure::Input => text.word(err, b"input"),

@@ -3,7 +3,7 @@ ghost use Rattle.std.specs.Prelude.{◌≡◌, map, string_bytes, take, drop};
 ghost use Rattle.std.specs.List.{find};
 ghost use Rattle.std.specs.Option.{option_map};
 ghost use Rattle.std.specs.Str.{bytes_eq};
-ghost use Rattle.vx_main.specs.Options.{once, repeated, shape_named, values_behind, value_count, values_of as values_in};
+ghost use Rattle.vx_main.specs.Options.{once, repeated, last, shape_named, values_behind, value_count, values_of as values_in};
 ghost use Rattle.vx_main.specs.Options.{is_option as is_option_in, are_options as are_all_options, optional_number as optional_number_of};
 
 use crate::numbers::number;
@@ -49,6 +49,18 @@ impl Shape {
             values,
             repeats: true,
             is_last: false,
+        }
+    }
+
+    /// An option whose values are all words behind it.
+    pub(crate) fn last(word: &'static str) -> Shape
+        ensures { result ≡ last word.now }
+    {
+        Shape {
+            word,
+            values: 0,
+            repeats: false,
+            is_last: true,
         }
     }
 

@@ -4,6 +4,7 @@ pub(crate) mod footer;
 pub(crate) mod help;
 pub(crate) mod layout;
 pub(crate) mod reply;
+pub(crate) mod rows;
 pub(crate) mod served;
 pub(crate) mod sizes;
 pub(crate) mod statistics;

@@ -1,9 +1,9 @@
 //! The names of refusals.
 ghost use Rattle.std.specs.Prelude.{◌≡◌};
-ghost use Rattle.vx_main.specs.Refusals.{refusal_words, bind_error_words, write_error_words};
+ghost use Rattle.vx_main.specs.Refusals.{refusal_words, bind_error_words, array_error_words, write_error_words};
 
 use vx_footer::{OpenError, Which, WriteError};
-use vx_rows::BindError;
+use vx_rows::{ArrayError, BindError};
 
 /// The name of the opening check that a file fails.
 pub(crate) fn refusal_name(refusal: OpenError) -> &'static str
@@ -45,6 +45,17 @@ pub(crate) fn bind_error_name(error: BindError) -> &'static str
         BindError::TypeMismatch => "TypeMismatch",
         BindError::NarrowingCast => "NarrowingCast",
         BindError::OutOfMemory => "OutOfMemory",
+    }
+}
+
+/// Why the bytes of a segment are no array.
+pub(crate) fn array_error_name(error: ArrayError) -> &'static str
+    ensures { result.now ≡ array_error_words error }
+{
+    match error {
+        ArrayError::BadArray => "BadArray",
+        ArrayError::UnknownEncoding => "UnknownEncoding",
+        ArrayError::OutOfMemory => "OutOfMemory",
     }
 }
 

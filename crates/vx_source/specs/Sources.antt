@@ -10,7 +10,7 @@ use Rattle.vx_source.specs.Bytes.{HasBytes, TellsSlices}
 use Rattle.vx_source.specs.Fits.{World}
 use Rattle.vx_source.specs.History.{Moment, made}
 use Rattle.vx_source.specs.Kept.{Kept}
-use Rattle.vx_source.specs.Stands.{Stands}
+use Rattle.vx_source.specs.Stands.{Stands, EndsWithin}
 use Rattle.vx_source.specs.declared.segment_source.SourceError.{SourceError}
 use Rattle.vx_source.specs.declared.segment_source.SourceError.TheVariants as source_error
 
@@ -80,6 +80,12 @@ pub record ShareFile (k : Kept) (reader : ReaderState) (cache : CacheState) (fil
 
 abbrev pub AreOfFile : Kept → ReaderState → CacheState → List ℕ → Type 0
 AreOfFile k reader cache file = ∥ ShareFile k reader cache file ∥₁
+
+-- the reader tells a file, in which each segment ends, and never fails
+pub record NeverFails (k : Kept) (reader : ReaderState) (file : List ℕ) : Type 0 where
+  pub told : reader.bytes ≡ Some file
+  pub never : reader.never_fails ≡ true
+  pub within : EndsWithin (length file) k.table
 
 -- a session stands for some history
 abbrev pub HasHistory : Kept → Type 0

@@ -59,6 +59,8 @@ impl SegmentSource for BufferSegmentSource {
 
     ghost serves = { IsFileInMemory };
 
+    ghost never_fails = { IsFileInMemory };
+
     fn segment(&mut self, alloc: Global, id: SegmentId) -> Result<ByteBuffer, SourceError> {
         self.request(alloc, id)
     }

@@ -1,5 +1,5 @@
 //! The trait of sources of segments.
-ghost use Rattle.std.specs.Prelude.{ℕ, List, IfOk};
+ghost use Rattle.std.specs.Prelude.{◌≡◌, ℕ, List, IfOk};
 ghost use Rattle.vx_source.specs.Bytes.{IsSlice};
 ghost use Rattle.vx_source.specs.Sources.{SourceState, SegmentCause, SameSource};
 
@@ -46,10 +46,15 @@ pub trait SegmentSource: Sized + Drop {
     // Whether its segments are those of a file.
     ghost serves: { Self → List ℕ → Type 0 };
 
+    // Whether no read of it fails, over a file.
+    ghost never_fails: { Self → List ℕ → Type 0 };
+
     /// The bytes of a segment.
     fn segment(&mut self, alloc: Global, id: SegmentId) -> Result<ByteBuffer, SourceError>
         ensures cause { SegmentCause id.0 (state self.old) (state self.new) result }
         ensures slice { IfOk result (λ buffer. (file : List ℕ) → serves self.old file → IsSlice file (state self.old).table id.0 buffer) }
         ensures serves { (file : List ℕ) → serves self.old file → serves self.new file }
+        ensures steady { (file : List ℕ) → never_fails self.old file →
+            never_fails self.new file × ((state self.new).faults ≡ (state self.old).faults) }
         ensures same { SameSource (state self.old) (state self.new) };
 }

@@ -8,7 +8,7 @@ ghost use Rattle.vx_source.specs.Bytes.{HasBytes};
 ghost use Rattle.vx_source.specs.Fetching.{Fetches, StopsFetch, AreAnswers, HaveSlices, IsReadyUnlessFailed, cache_failures};
 ghost use Rattle.vx_source.specs.Fits.{World};
 ghost use Rattle.vx_source.specs.History.{Moment};
-ghost use Rattle.vx_source.specs.Sources.{HasHistory, AreOfFile, in_session, history_for};
+ghost use Rattle.vx_source.specs.Sources.{HasHistory, AreOfFile, in_session, history_for, NeverFails};
 ghost use Rattle.vx_source.specs.Stands.{Stands, EndsWithin};
 
 use crate::{FailCause, Fetched, Reply, SegmentSource, Session, SourceError};
@@ -121,6 +121,8 @@ impl<R: Reader, C: SegmentCache> SegmentSource for SessionSource<R, C> {
     ghost state = { λ s. in_session s.session (R.state s.reader) (C.state s.cache) };
 
     ghost serves = { λ s. AreOfFile s.session (R.state s.reader) (C.state s.cache) };
+
+    ghost never_fails = { λ s. NeverFails s.session (R.state s.reader) };
 
     fn segment(&mut self, alloc: Global, id: SegmentId) -> Result<ByteBuffer, SourceError> {
         let fetched = self.segments(alloc, &[id])?;

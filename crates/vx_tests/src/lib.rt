@@ -34,6 +34,8 @@ mod predicates;
 #[cfg(test)]
 mod pruning;
 #[cfg(test)]
+mod reader_scans;
+#[cfg(test)]
 mod reopening;
 #[cfg(test)]
 mod scans;

@@ -19,7 +19,7 @@ fn opened(alloc: Global, bytes: ByteBuffer) -> Result<VortexFile<BufferSegmentSo
 }
 
 // A file of which the byte at a place is another.
-fn damaged(alloc: Global, text: &str, place: usize) -> Result<ByteBuffer, Fail> {
+pub(crate) fn damaged(alloc: Global, text: &str, place: usize) -> Result<ByteBuffer, Fail> {
     let mut bytes = hex::decode(alloc, text.as_bytes()).ok().ok_or("no hex")?;
     if let Some(byte) = bytes.get_mut(place) {
         *byte = 9;
@@ -28,14 +28,14 @@ fn damaged(alloc: Global, text: &str, place: usize) -> Result<ByteBuffer, Fail> 
 }
 
 // A field of the rows.
-fn field(alloc: Global, name: &str) -> Result<Box<Predicate>, Fail> {
+pub(crate) fn field(alloc: Global, name: &str) -> Result<Box<Predicate>, Fail> {
     let mut names = Vec::new(alloc);
     names.push(String::from_str(alloc, name)?)?;
     Ok(Box::new(alloc, Predicate::Field(FieldPath::new(names)))?)
 }
 
 // A number of this type.
-fn number(alloc: Global, ptype: PType, value: i128) -> Result<Box<Predicate>, Fail> {
+pub(crate) fn number(alloc: Global, ptype: PType, value: i128) -> Result<Box<Predicate>, Fail> {
     let literal = Predicate::Lit(DType::Int(ptype, false), Some(Scalar::Int(value)));
     Ok(Box::new(alloc, literal)?)
 }
@@ -50,7 +50,7 @@ fn bound(
 }
 
 // Whether the rows have these texts.
-fn has(alloc: Global, column: &Column, lines: &str) -> Result<bool, Fail> {
+pub(crate) fn has(alloc: Global, column: &Column, lines: &str) -> Result<bool, Fail> {
     let mut text = String::new(alloc);
     push_rows(alloc, &mut text, column)?;
     Ok(text.as_str() == lines)

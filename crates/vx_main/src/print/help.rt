@@ -6,7 +6,7 @@ use crate::text::TextOut;
 use vx_base::Sink;
 
 const WHAT: &[u8] =
-    b"vx serves the segments of columnar files, tells how large fields are, skips\nfiles, and writes them.\n\n";
+    b"vx serves the segments of columnar files, tells how large fields are, skips\nfiles, prints their rows, and writes them.\n\n";
 
 const USAGE: &[u8] = b"usage: vx COMMAND\n\n";
 
@@ -38,6 +38,12 @@ const SIZES: &[u8] =
 
 const PRUNE: &[u8] =
     b"  prune NAME P  prints whether the file NAME can be skipped, since no row of it\n                satisfies the predicate P; a --dtype stands in front of P\n";
+
+const SCAN: &[u8] =
+    b"  scan NAME     prints the type of the rows of the file NAME, and the rows\n      --dtype D     the rows have the type D: the file's own is not read\n";
+
+const SCAN_FILTER: &[u8] =
+    b"      --filter P    only the rows that satisfy the predicate P; it stands last\n";
 
 const DEMO: &[u8] =
     b"  demo V ..     serves a file of the values V, 1 to 8192 numbers of 32 bits,\n                which it writes to memory\n";
@@ -104,6 +110,8 @@ pub(crate) fn put_help<S: Sink>(text: &mut TextOut, out: &mut S)
     text.word(out, CACHE);
     text.word(out, SIZES);
     text.word(out, PRUNE);
+    text.word(out, SCAN);
+    text.word(out, SCAN_FILTER);
     text.word(out, DEMO);
     text.word(out, WRITE);
     text.word(out, WRITE_OPTIONS);

@@ -1,10 +1,10 @@
-use Rattle.std.proofs.Common.{◌≡◌, ◌<◌, ◌≤◌, ◌+◌, Ok, Err, length, drop, map, rules, sym, ap, subst, ◌∙◌, arith}
+use Rattle.std.proofs.Common.{◌≡◌, ◌≤◌, ◌+◌, Err, length, drop, map, rules, refl, sym, subst, ◌∙◌, arith}
 use Rattle.std.specs.Prelude.{string_bytes}
-use Rattle.vx_data.specs.Layout.{layouts_of, kind_of, segments_of, children_of, dtype_of as type_of_tree, rows_of as tree_rows}
+use Rattle.vx_data.specs.Layout.{layouts_of, kind_of, segments_of, dtype_of as type_of_tree, rows_of as tree_rows}
 use Rattle.vx_rows.specs.Rows.{column_view}
-use Rattle.vx_file.specs.Scans.{seen, bytes_in, flats_of, flats_of_all, ScanFails, AreRead, AreParts}
+use Rattle.vx_file.specs.Scans.{seen, bytes_in, flats_of_all, ScanFails, AreRead, AreParts}
 use Rattle.vx_file.proofs.JoiningLemmas.{chunks_are, chunks_typed, columns_are, structs_typed}
-use Rattle.vx_file.proofs.ReadingLemmas.{Progress, progress_none, progress_more, progress_fails, progress_reads, progress_parts, next_child, no_child, child_smaller, parts_are, flats_chunked, flats_struct}
+use Rattle.vx_file.proofs.ReadingLemmas.{Progress, progress_none, progress_more, progress_fails, source_earlier, progress_reads, progress_parts, next_child, no_child, child_smaller, parts_are, flats_chunked, flats_struct}
 use Rattle.vx_file.proofs.layout_reading.+reading.Goals as goal
 
 pub read_children-loop-child-init : goal.read_children-loop-child-init
@@ -15,6 +15,7 @@ read_children-loop-child-init g t c =
           (layouts_of c.fitted_children-children.result.now) (layouts_of c.fitted_children-children.result.now) (seen cs)) (sym c.new-columns.ensures.items)
           (progress_none (source.serves c.args.source.now) (source.state c.args.source.now) (map string_bytes c.args.ids.now) (layouts_of c.fitted_children-children.result.now));
       serves = λ file h. h;
+      steady = λ file h. (h, refl);
     }
 
 pub read_children-read_layout-requires : goal.read_children-read_layout-requires
@@ -36,6 +37,18 @@ read_children-returns-in_err-column-clause-fails g t c = λ e is file s.
     (progress_fails (source.serves start) (source.serves c.loop-child.source) (source.state start) (source.state c.loop-child.source) ids (layouts_of children) c.child-item.result
     (layouts_of (drop (c.loop-child.child-index + 1) children)) (seen c.loop-child.columns.items) here i.serves (source.state c.read_layout.new.source) e (c.read_layout.ensures.fails e was) file s)
 
+pub read_children-returns-in_err-column-clause-cause : goal.read_children-returns-in_err-column-clause-cause
+read_children-returns-in_err-column-clause-cause g t c = λ e is.
+    let source = g.S.SegmentSource in
+    let was : c.read_layout.result ≡ Err e = search rules in
+    source_earlier (source.state c.args.source.now) (source.state c.loop-child.source) (source.state c.read_layout.new.source) e c.loop-child.invariant.progress.same (c.read_layout.ensures.cause e was)
+
+pub read_children-returns-in_err-column-clause-steady : goal.read_children-returns-in_err-column-clause-steady
+read_children-returns-in_err-column-clause-steady g t c = λ file h.
+    let before = c.loop-child.invariant.steady file h in
+    let here = c.read_layout.ensures.steady file before.0 in
+    (here.0, here.1 ∙ before.1)
+
 pub read_children-loop-child-preserved : goal.read_children-loop-child-preserved
 read_children-loop-child-preserved g t c =
     let source = g.S.SegmentSource in
@@ -50,6 +63,7 @@ read_children-loop-child-preserved g t c =
           (layouts_of (drop (c.loop-child.child-index + 1) children)) (seen c.loop-child.columns.items) here i.serves (source.state c.read_layout.new.source) (column_view c.in_ok-column.column)
           (seen c.add.new.columns.items) c.in_ok-column.ensures.reads c.in_ok-column.ensures.typed c.read_layout.ensures.same c.in_ok-add.ensures;
       serves = λ file s. c.read_layout.ensures.serves file (i.serves file s);
+      steady = λ file h. let before = i.steady file h in let here = c.read_layout.ensures.steady file before.0 in (here.0, here.1 ∙ before.1);
     }
 
 pub read_children-returns-clause-reads : goal.read_children-returns-clause-reads

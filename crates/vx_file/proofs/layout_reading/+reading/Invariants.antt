@@ -1,4 +1,4 @@
-use Rattle.std.proofs.Common.{ℕ, List, ◌*◌, ◌+◌, drop, map}
+use Rattle.std.proofs.Common.{◌≡◌, ℕ, List, ◌*◌, ◌+◌, drop, map}
 use Rattle.std.specs.Prelude.{string_bytes}
 use Rattle.vx_data.specs.Layout.{layouts_of, tree_size}
 use Rattle.vx_file.specs.Scans.{seen}
@@ -18,4 +18,5 @@ invariant-read_children-loop-child g l =
     record {
       progress : Progress (source.serves l.fn.source) (source.state l.fn.source) (source.state l.source) (map string_bytes l.ids) (layouts_of l.children) (layouts_of (drop l.child-index l.children)) (seen l.columns.items);
       serves : (file : List ℕ) → source.serves l.fn.source file → source.serves l.source file;
+      steady : (file : List ℕ) → source.never_fails l.fn.source file → source.never_fails l.source file × ((source.state l.source).faults ≡ (source.state l.fn.source).faults);
     }

@@ -17,6 +17,11 @@ returns-in-Prune-clause-keeps g c =
     let source = g.I.Source.state c.args.input.now in
     subst (λ x. Keeps x source source (g.F.Opener.state c.args.files.now) (g.F.Opener.state c.answer-in-Prune.new.files)) (sym c.in-Prune.is) (c.answer-in-Prune.ensures.keeps source)
 
+pub returns-in-Scan-clause-keeps : goal.returns-in-Scan-clause-keeps
+returns-in-Scan-clause-keeps g c =
+    let source = g.I.Source.state c.args.input.now in
+    subst (λ x. Keeps x source source (g.F.Opener.state c.args.files.now) (g.F.Opener.state c.answer-in-Scan.new.files)) (sym c.in-Scan.is) (c.answer-in-Scan.ensures.keeps source)
+
 pub returns-in-Write-clause-keeps : goal.returns-in-Write-clause-keeps
 returns-in-Write-clause-keeps g c =
     let files = g.F.Opener.state c.args.files.now in
