@@ -1,4 +1,4 @@
-//! The program `vx`: serves the segments of files by a script, measures and skips files, and writes files of rows.
+//! The program `vx`: serves the segments of files by a script, measures and skips files, and writes and prints rows.
 #![tactic(auto, using(crate::proofs::TextLemmas::adds_then, crate::proofs::TextLemmas::adds_nothing))]
 
 mod answer;
