@@ -18,3 +18,4 @@ pub mod ChainLemmas
 pub mod CallLemmas
 pub mod PollLemmas
 pub mod AnswerLemmas
+pub mod NumberedLemmas

@@ -1,5 +1,5 @@
 -- A table of reads and places, after a change.
-use Rattle.std.proofs.Common.{◌≡◌, ℕ, ◌≤◌, ◌||◌, List, [], ◌∷◌, map, max, ◌-◌, ◌<◌, ◌^◌, ◌==◌, ◌&&◌, not, Bool, true, false, cond, Option, Some, None, option_map, IfSome, IfNone, refl, ap, sym, ◌∙◌, arith, subst, unwrap_or}
+use Rattle.std.proofs.Common.{◌≡◌, ℕ, ◌≤◌, ◌||◌, List, [], ◌∷◌, map, max, ◌-◌, ◌<◌, ◌^◌, ◌==◌, ◌&&◌, not, Bool, true, false, cond, Option, Some, None, option_map, IfSome, IfNone, refl, ap, sym, ◌∙◌, arith, subst, unwrap_or, rules}
 use Rattle.std.proofs.lemmas.Bool.Decides.{nat_tests}
 use Rattle.std.specs.List.{list_any, filter}
 use Rattle.std.specs.BTreeMap.{is_at}
@@ -10,13 +10,14 @@ use Rattle.std.specs.Ordering.{nat_cmp}
 use Rattle.vx_sched.specs.Span.{end_of}
 use Rattle.std.specs.List.Sorted.{IsStrictlySortedBy}
 use Rattle.std.specs.Map.{keys_of}
+use Rattle.std.proofs.lemmas.Map.Keys.{sorted_from_strictly_increasing}
 use Rattle.vx_sched.specs.Entries.{Entries, entry_at, if_waits, waits_in, polled_in, after}
 use Rattle.vx_sched.proofs.EntriesLemmas.{waiting_in, if_polls, polled_entry}
 use Rattle.vx_sched.specs.Reads.{Known, Reads, read_at, waiting_at, polled_at, if_waiting, if_polled, is_waiting, is_polled}
 use Rattle.vx_sched.specs.Polls.{Flags, flag_at, is_raised, AreMarked}
 use Rattle.vx_sched.specs.declared.read.ReadState.{ReadState}
 use Rattle.vx_sched.specs.declared.read.ReadState.TheVariants as state
-use Rattle.vx_sched.specs.Places.{place_cmp, waits_at, stays_waiting, IsKept}
+use Rattle.vx_sched.specs.Places.{place_cmp, waits_at, stays_waiting, IsKept, AreGrouped, IsTable}
 use Rattle.vx_sched.specs.declared.request.ReadRequest.{ReadRequest}
 use Rattle.vx_sched.specs.declared.read.Read.{Read}
 use Rattle.vx_sched.specs.declared.read.Stage.{Stage}
@@ -356,3 +357,18 @@ found-along P id (Some r) k h = subst P (sym k.0) h
 pub found-some : (P : Type 0) (reads : Reads) (id : ℕ) → polled_at reads id ≡ true → (o : Option ReadRequest) → o ≡ waiting_at reads id → IfNone o P
 found-some P reads id h None e = absurd (polled-waits reads id h (sym e))
 found-some P reads id h (Some r) e = tt
+
+-- a table without reads
+pub empty_table : (entries : Entries) (places : BTreeSet (ℕ × ℕ)) (flags : Flags) → entries ≡ [] → places.keys ≡ [] → flags ≡ [] → IsTable entries places 0 flags
+empty_table entries places flags e p f = subst (λ (es : Entries). IsTable es places 0 flags) (sym e) (subst (λ (fs : Flags). IsTable [] places 0 fs) (sym f) (record {
+  kept = record {
+    tied = λ offset id. ap (λ keys. list_any (is_at (place_cmp (offset, id))) keys) p;
+    sorted = sorted_from_strictly_increasing [] (search rules);
+    keyed = λ id x h. cc;
+    small = λ id x h. cc;
+    long = λ id x h. cc;
+    fits = λ id x h. cc;
+  };
+  grouped = record { named = λ n h. cc; sizes = λ id n size h. cc };
+  marked = λ n. refl;
+}))

@@ -1,10 +1,11 @@
 -- How many reads a scheduler has in each state.
-use Rattle.std.specs.Prelude.{ℕ, ◌+◌, Bool, true, false, [], ◌∷◌, if◌then◌else◌}
+use Rattle.std.specs.Prelude.{ℕ, ◌+◌, Bool, true, false, [], ◌∷◌, Option, Some, None, if◌then◌else◌}
 use Rattle.vx_sched.specs.Reads.{Reads, ranges_in_flight}
 use Rattle.vx_sched.specs.Entries.{Entries, polled_in, flies_under}
 use Rattle.vx_sched.specs.declared.counts.Counts.{Counts}
 use Rattle.vx_sched.specs.declared.counts.Kind.{Kind}
 use Rattle.vx_sched.specs.declared.counts.Kind.TheVariants.{IsRegistered, IsPolled, IsFlying, IsResolved, Leads}
+use Rattle.vx_sched.specs.declared.read.Read.{Read}
 use Rattle.vx_sched.specs.declared.read.ReadState.{ReadState}
 use Rattle.vx_sched.specs.declared.read.ReadState.TheVariants as state
 use Rattle.vx_sched.specs.declared.read.Stage.{Stage}
@@ -66,3 +67,8 @@ is_of Leads id stage = flies_under id stage
 abbrev pub count_of : Kind → Entries → ℕ
 count_of kind [] = 0
 count_of kind (e ∷ rest) = (if is_of kind e.1.request.id e.1.stage then 1 else 0) + count_of kind rest
+
+-- whether there is a read of a kind
+abbrev pub slot_is : Kind → Option Read → Bool
+slot_is kind None = false
+slot_is kind (Some x) = is_of kind x.request.id x.stage

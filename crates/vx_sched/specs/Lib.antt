@@ -7,6 +7,7 @@ pub mod Insert
 pub mod Io
 pub mod Law
 pub mod Merging
+pub mod Numbered
 pub mod Metrics
 pub mod Outcomes
 pub mod Picks

@@ -8,8 +8,8 @@ ghost use Rattle.vx_sched.specs.Flying.{same_read, flies_in, flies_so};
 
 use crate::ReadRequest;
 use crate::gather::comes_before;
+use crate::numbered::Numbered;
 use crate::read::{Read, Stage};
-use std::collections::BTreeMap;
 use std::ops::Range;
 
 /// Whether reads are listed once each, in order.
@@ -77,11 +77,11 @@ fn flies(span: u64, size: usize, request: &ReadRequest, found: Option<Read>) -> 
 }
 
 /// Whether reads are in flight in a span.
-pub fn all_fly(reads: &BTreeMap<u64, Read>, span: u64, size: usize, spans: &[ReadRequest]) -> bool
-    ensures { result ≡ list_all (λ r. flies_so span size r (entry_at reads.now.entries r.id)) spans.now }
+pub fn all_fly(reads: &Numbered<Read>, span: u64, size: usize, spans: &[ReadRequest]) -> bool
+    ensures { result ≡ list_all (λ r. flies_so span size r (entry_at reads.now r.id)) spans.now }
 {
     for read in spans {
-        if !flies(span, size, read, reads.get(&read.id).copied()) {
+        if !flies(span, size, read, reads.get(read.id)) {
             return false;
         }
     }

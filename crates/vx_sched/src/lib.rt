@@ -12,6 +12,7 @@ mod gather;
 mod io_request;
 mod law;
 mod metrics;
+mod numbered;
 mod polls;
 mod read;
 mod request;

@@ -7,16 +7,16 @@ ghost use Rattle.std.specs.BTreeMap.{is_at};
 ghost use Rattle.std.specs.Ordering.{nat_cmp};
 ghost use Rattle.vx_sched.specs.Polls.{flag_at, has_flag, is_raised, Covers};
 
+use crate::numbered::{Numbered, Slot, place_of};
 use std::alloc::{AllocError, Global};
-use std::collections::BTreeMap;
 use std::marker::Model;
 
 /// A flag for each number, and over them flags of blocks, and of groups of blocks.
 #[derive(Drop)]
 pub struct Polls {
-    numbers: BTreeMap<u64, bool>,
-    blocks: BTreeMap<u64, bool>,
-    groups: BTreeMap<u64, bool>,
+    numbers: Numbered<bool>,
+    blocks: Numbered<bool>,
+    groups: Numbered<bool>,
 }
 
 impl Model for Polls {
@@ -24,41 +24,67 @@ impl Model for Polls {
 
     ghost Value = { Flags };
 
-    ghost view = { λ p. p.numbers.entries };
+    ghost view = { λ p. p.numbers };
 
-    ghost invariant = { λ p. Covers p.numbers.entries p.blocks.entries × Covers p.blocks.entries p.groups.entries };
+    ghost invariant = { λ p. Covers p.numbers p.blocks × Covers p.blocks p.groups };
+}
+
+/// Whether the flag of a slot is raised.
+fn is_up(slot: &Slot<bool>) -> bool
+    ensures up { result ≡ true → slot.now.value ≡ Some true }
+    ensures low { result ≡ false → slot.now.value ≡ Some true → ⊥ }
+{
+    match slot.value {
+        Some(flag) => flag,
+        None => false,
+    }
 }
 
 /// The least number within bounds whose flag is raised.
-fn first_raised(flags: &BTreeMap<u64, bool>, from: u64, upto: u64) -> Option<u64>
+fn first_raised(flags: &Numbered<bool>, from: u64, upto: u64) -> Option<u64>
     requires { from ≤ upto }
-    ensures raised { IfSome result (λ n. is_raised flags.now.entries n ≡ true) }
+    ensures raised { IfSome result (λ n. is_raised flags.now n ≡ true) }
     ensures within { IfSome result (λ n. (from ≤ n) × (n ≤ upto)) }
-    ensures least { IfSome result (λ n. (q : ℕ) → from ≤ q → q < n → is_raised flags.now.entries q ≡ false) }
-    ensures none { IfNone result ((q : ℕ) → from ≤ q → q ≤ upto → is_raised flags.now.entries q ≡ false) }
+    ensures least { IfSome result (λ n. (q : ℕ) → from ≤ q → q < n → is_raised flags.now q ≡ false) }
+    ensures none { IfNone result ((q : ℕ) → from ≤ q → q ≤ upto → is_raised flags.now q ≡ false) }
 {
-    for (number, flag) in flags.range(from..=upto) {
-        if *flag {
-            return Some(*number);
+    let slots = flags.slots();
+    for at in place_of(slots, from)..slots.len() {
+        let slot = &slots[at];
+        if slot.number > upto {
+            return None;
+        }
+        if is_up(slot) {
+            return Some(slot.number);
         }
     }
     None
 }
 
 /// Whether a number within bounds has a flag.
-fn has_any(flags: &BTreeMap<u64, bool>, from: u64, upto: u64) -> bool
+fn has_any(flags: &Numbered<bool>, from: u64, upto: u64) -> bool
     requires { from ≤ upto }
-    ensures { result ≡ false → (q : ℕ) → from ≤ q → q ≤ upto → has_flag flags.now.entries q ≡ false }
+    ensures { result ≡ false → (q : ℕ) → from ≤ q → q ≤ upto → has_flag flags.now q ≡ false }
 {
-    flags.range(from..=upto).next().is_some()
+    let slots = flags.slots();
+    for at in place_of(slots, from)..slots.len() {
+        let slot = &slots[at];
+        if slot.number > upto {
+            return false;
+        }
+        if slot.value.is_some() {
+            return true;
+        }
+    }
+    false
 }
 
 /// The flag that a block is to have: none where its numbers have none, and else whether one is raised.
-fn over(flags: &BTreeMap<u64, bool>, block: u64) -> Option<bool>
+fn over(flags: &Numbered<bool>, block: u64) -> Option<bool>
     requires { block < 2 ^ 58 }
-    ensures none { result ≡ None → (n : ℕ) → n / 64 ≡ block → has_flag flags.now.entries n ≡ false }
-    ensures low { unwrap_or result false ≡ false → (n : ℕ) → n / 64 ≡ block → is_raised flags.now.entries n ≡ false }
-    ensures held { result ≡ Some true → (n : ℕ) × ((n / 64 ≡ block) × (is_raised flags.now.entries n ≡ true)) }
+    ensures none { result ≡ None → (n : ℕ) → n / 64 ≡ block → has_flag flags.now n ≡ false }
+    ensures low { unwrap_or result false ≡ false → (n : ℕ) → n / 64 ≡ block → is_raised flags.now n ≡ false }
+    ensures held { result ≡ Some true → (n : ℕ) × ((n / 64 ≡ block) × (is_raised flags.now n ≡ true)) }
 {
     let first = block * 64;
     if first_raised(flags, first, first + 63).is_some() {
@@ -71,51 +97,47 @@ fn over(flags: &BTreeMap<u64, bool>, block: u64) -> Option<bool>
 }
 
 /// Gives a number without a flag a lowered one.
-fn add_flag(flags: &mut BTreeMap<u64, bool>, number: u64) -> Result<(), AllocError>
-    requires { flag_at flags.old.entries number ≡ None }
-    ensures opened { OnOk result ((n : ℕ) → flag_at flags.new.entries n
-        ≡ cond (is_at (nat_cmp number) n) (Some (is_raised flags.old.entries number)) (flag_at flags.old.entries n)) }
-    ensures kept { OnErr result (flags.new.entries ≡ flags.old.entries) }
+fn add_flag(flags: &mut Numbered<bool>, number: u64) -> Result<(), AllocError>
+    requires { flag_at flags.old number ≡ None }
+    ensures opened { OnOk result ((n : ℕ) → flag_at flags.new n
+        ≡ cond (is_at (nat_cmp number) n) (Some (is_raised flags.old number)) (flag_at flags.old n)) }
+    ensures kept { OnErr result (flags.new ≡ flags.old) }
 {
-    match flags.insert(number, false) {
-        Ok(_) => Ok(()),
-        Err(_) => Err(AllocError),
-    }
+    flags.put(number, false)?;
+    Ok(())
 }
 
 /// Gives a number a lowered flag, if it has none.
-fn open_flag(flags: &mut BTreeMap<u64, bool>, number: u64) -> Result<(), AllocError>
-    ensures opened { OnOk result ((n : ℕ) → flag_at flags.new.entries n
-        ≡ cond (is_at (nat_cmp number) n) (Some (is_raised flags.old.entries number)) (flag_at flags.old.entries n)) }
-    ensures kept { OnErr result (flags.new.entries ≡ flags.old.entries) }
+fn open_flag(flags: &mut Numbered<bool>, number: u64) -> Result<(), AllocError>
+    ensures opened { OnOk result ((n : ℕ) → flag_at flags.new n
+        ≡ cond (is_at (nat_cmp number) n) (Some (is_raised flags.old number)) (flag_at flags.old n)) }
+    ensures kept { OnErr result (flags.new ≡ flags.old) }
 {
-    if flags.contains_key(&number) {
+    if flags.get(number).is_some() {
         return Ok(());
     }
     add_flag(flags, number)
 }
 
 /// Gives a number, which has a flag, another one or none.
-fn put_flag(flags: &mut BTreeMap<u64, bool>, number: u64, flag: Option<bool>)
-    requires { has_flag flags.old.entries number ≡ true }
-    ensures { (n : ℕ) → flag_at flags.new.entries n ≡ cond (is_at (nat_cmp number) n) flag (flag_at flags.old.entries n) }
+fn put_flag(flags: &mut Numbered<bool>, number: u64, flag: Option<bool>)
+    requires { has_flag flags.old number ≡ true }
+    ensures { (n : ℕ) → flag_at flags.new n ≡ cond (is_at (nat_cmp number) n) flag (flag_at flags.old n) }
 {
     match flag {
-        Some(flag) => match flags.insert(number, flag) {
-            Ok(_) => {}
+        Some(flag) => match flags.put(number, flag) {
+            Ok(()) => {}
             Err(_) => unreachable!(),
         },
-        None => {
-            flags.remove(&number);
-        }
+        None => flags.remove(number),
     }
 }
 
 /// Whether a number has this flag, or has none where this is none.
-fn has_this(flags: &BTreeMap<u64, bool>, number: u64, flag: Option<bool>) -> bool
-    ensures { result ≡ true → flag_at flags.now.entries number ≡ flag }
+fn has_this(flags: &Numbered<bool>, number: u64, flag: Option<bool>) -> bool
+    ensures { result ≡ true → flag_at flags.now number ≡ flag }
 {
-    match (flags.get(&number).copied(), flag) {
+    match (flags.get(number), flag) {
         (Some(there), Some(flag)) => there == flag,
         (None, None) => true,
         _ => false,
@@ -123,12 +145,12 @@ fn has_this(flags: &BTreeMap<u64, bool>, number: u64, flag: Option<bool>) -> boo
 }
 
 /// The least block from one on whose flag is raised, by the flags of groups over them.
-fn next_block(blocks: &BTreeMap<u64, bool>, groups: &BTreeMap<u64, bool>, from: u64) -> Option<u64>
-    requires { Covers blocks.now.entries groups.now.entries }
-    ensures raised { IfSome result (λ n. is_raised blocks.now.entries n ≡ true) }
+fn next_block(blocks: &Numbered<bool>, groups: &Numbered<bool>, from: u64) -> Option<u64>
+    requires { Covers blocks.now groups.now }
+    ensures raised { IfSome result (λ n. is_raised blocks.now n ≡ true) }
     ensures after { IfSome result (λ n. from ≤ n) }
-    ensures least { IfSome result (λ n. (q : ℕ) → from ≤ q → q < n → is_raised blocks.now.entries q ≡ false) }
-    ensures none { IfNone result ((q : ℕ) → from ≤ q → is_raised blocks.now.entries q ≡ false) }
+    ensures least { IfSome result (λ n. (q : ℕ) → from ≤ q → q < n → is_raised blocks.now q ≡ false) }
+    ensures none { IfNone result ((q : ℕ) → from ≤ q → is_raised blocks.now q ≡ false) }
 {
     let group = from / 64;
     if let Some(block) = first_raised(blocks, from, group * 64 + 63) {
@@ -145,9 +167,9 @@ impl Polls {
         ensures { result ≡ [] }
     {
         Polls {
-            numbers: BTreeMap::new(alloc),
-            blocks: BTreeMap::new(alloc),
-            groups: BTreeMap::new(alloc),
+            numbers: Numbered::new(alloc),
+            blocks: Numbered::new(alloc),
+            groups: Numbered::new(alloc),
         }
     }
 

@@ -18,16 +18,17 @@ ghost use Rattle.vx_sched.specs.Polls.{flag_at, is_raised, AreMarked};
 use crate::ReadRequest;
 use crate::counts::{Counts, Kind, count_kind};
 use crate::flying::{all_fly, is_ordered};
+use crate::numbered::Numbered;
 use crate::polls::Polls;
 use crate::read::{Change, Read, ReadState, Stage, stage_after};
 use std::alloc::{AllocError, Global};
-use std::collections::{BTreeMap, BTreeSet};
+use std::collections::BTreeSet;
 use std::marker::Model;
 
 /// The reads by number, the places of those that wait, and which of them are polled.
 #[derive(Drop)]
 pub struct Table {
-    reads: BTreeMap<u64, Read>,
+    reads: Numbered<Read>,
     places: BTreeSet<(u64, u64)>,
     polls: Polls,
     /// No read is longer than this.
@@ -41,25 +42,25 @@ impl Model for Table {
 
     ghost Value = { Reads };
 
-    ghost view = { λ t. seen t.reads.entries };
+    ghost view = { λ t. seen t.reads };
 
-    ghost invariant = { λ t. IsTable t.reads.entries t.places t.longest t.polls };
+    ghost invariant = { λ t. IsTable t.reads t.places t.longest t.polls };
 }
 
 /// Adds a read and its place, or neither.
 fn add(
-    reads: &mut BTreeMap<u64, Read>,
+    reads: &mut Numbered<Read>,
     places: &mut BTreeSet<(u64, u64)>,
     request: ReadRequest,
 ) -> Result<(), AllocError>
-    ensures entries { OnOk result (reads.new.entries ≡ insert_entry nat_cmp reads.old.entries request.id
+    ensures entries { OnOk result (reads.new ≡ insert_entry nat_cmp reads.old request.id
         (record { request = request; stage = Stage.Registered })) }
-    ensures lookups { OnOk result ((q : ℕ) → entry_at reads.new.entries q
+    ensures lookups { OnOk result ((q : ℕ) → entry_at reads.new q
         ≡ cond (is_at (nat_cmp request.id) q) (Some (record { request = request; stage = Stage.Registered }))
-        (entry_at reads.old.entries q)) }
+        (entry_at reads.old q)) }
     ensures places { OnOk result ((k : ℕ × ℕ) → contains place_cmp places.new k
         ≡ cond (is_at (place_cmp (request.offset, request.id)) k) true (contains place_cmp places.old k)) }
-    ensures kept { OnErr result (reads.new.entries ≡ reads.old.entries) }
+    ensures kept { OnErr result (reads.new ≡ reads.old) }
     ensures kept_places { contains place_cmp places.old (request.offset, request.id) ≡ false → OnErr result
         ((k : ℕ × ℕ) → contains place_cmp places.new k ≡ contains place_cmp places.old k) }
 {
@@ -70,8 +71,8 @@ fn add(
         request,
         stage: Stage::Registered,
     };
-    match reads.insert(id, read) {
-        Ok(_) => Ok(()),
+    match reads.put(id, read) {
+        Ok(()) => Ok(()),
         Err(_) => {
             places.remove(&place);
             Err(AllocError)
@@ -80,20 +81,18 @@ fn add(
 }
 
 /// Puts the read of a number, which is there, in another stage, or takes it out.
-fn put(reads: &mut BTreeMap<u64, Read>, id: u64, request: ReadRequest, stage: Option<Stage>)
-    requires { IsSome (entry_at reads.old.entries id) }
-    ensures entries { reads.new.entries ≡ with_stage reads.old.entries id request stage }
-    ensures lookups { (q : ℕ) → entry_at reads.new.entries q ≡ cond (is_at (nat_cmp id) q)
-        (option_map (λ s. record { request = request; stage = s }) stage) (entry_at reads.old.entries q) }
+fn put(reads: &mut Numbered<Read>, id: u64, request: ReadRequest, stage: Option<Stage>)
+    requires { IsSome (entry_at reads.old id) }
+    ensures entries { reads.new ≡ with_stage reads.old id request stage }
+    ensures lookups { (q : ℕ) → entry_at reads.new q ≡ cond (is_at (nat_cmp id) q)
+        (option_map (λ s. record { request = request; stage = s }) stage) (entry_at reads.old q) }
 {
     match stage {
-        Some(stage) => match reads.insert(id, Read { request, stage }) {
-            Ok(_) => {}
+        Some(stage) => match reads.put(id, Read { request, stage }) {
+            Ok(()) => {}
             Err(_) => unreachable!(),
         },
-        None => {
-            reads.remove(&id);
-        }
+        None => reads.remove(id),
     }
 }
 
@@ -172,10 +171,10 @@ fn mark(polls: &mut Polls, id: u64, before: &Stage, after: Option<Stage>)
 }
 
 /// The entry of a number.
-fn entry(reads: &BTreeMap<u64, Read>, id: u64) -> Option<Read>
-    ensures { result ≡ entry_at reads.now.entries id }
+fn entry(reads: &Numbered<Read>, id: u64) -> Option<Read>
+    ensures { result ≡ entry_at reads.now id }
 {
-    reads.get(&id).copied()
+    reads.get(id)
 }
 
 /// The request of an entry that waits.
@@ -206,16 +205,16 @@ fn if_state(found: Option<Read>) -> Option<ReadState>
 
 /// Changes the read of a number, if there is one.
 fn change_entry(
-    reads: &mut BTreeMap<u64, Read>,
+    reads: &mut Numbered<Read>,
     places: &mut BTreeSet<(u64, u64)>,
     polls: &mut Polls,
     id: u64,
     change: Change,
 )
-    requires { AreMarked reads.old.entries polls.old }
-    ensures changed { reads.new.entries ≡ changed change reads.old.entries id }
-    ensures kept { (longest : ℕ) → IsKept reads.old.entries places.old longest → IsKept reads.new.entries places.new longest }
-    ensures marked { AreMarked reads.new.entries polls.new }
+    requires { AreMarked reads.old polls.old }
+    ensures changed { reads.new ≡ changed change reads.old id }
+    ensures kept { (longest : ℕ) → IsKept reads.old places.old longest → IsKept reads.new places.new longest }
+    ensures marked { AreMarked reads.new polls.new }
 {
     if let Some(read) = entry(reads, id) {
         let stage = stage_after(change, read.stage);
@@ -227,16 +226,16 @@ fn change_entry(
 
 /// Changes several reads.
 fn change_entries(
-    reads: &mut BTreeMap<u64, Read>,
+    reads: &mut Numbered<Read>,
     places: &mut BTreeSet<(u64, u64)>,
     polls: &mut Polls,
     change: Change,
     span: &[ReadRequest],
 )
-    requires { AreMarked reads.old.entries polls.old }
-    ensures changed { reads.new.entries ≡ all_changed change reads.old.entries span.now }
-    ensures kept { (longest : ℕ) → IsKept reads.old.entries places.old longest → IsKept reads.new.entries places.new longest }
-    ensures marked { AreMarked reads.new.entries polls.new }
+    requires { AreMarked reads.old polls.old }
+    ensures changed { reads.new ≡ all_changed change reads.old span.now }
+    ensures kept { (longest : ℕ) → IsKept reads.old places.old longest → IsKept reads.new places.new longest }
+    ensures marked { AreMarked reads.new polls.new }
 {
     for read in span {
         change_entry(reads, places, polls, read.id, change);
@@ -258,7 +257,7 @@ impl Table {
         ensures { result ≡ [] }
     {
         Table {
-            reads: BTreeMap::new(alloc),
+            reads: Numbered::new(alloc),
             places: BTreeSet::new(alloc),
             polls: Polls::new(alloc),
             longest: 0,

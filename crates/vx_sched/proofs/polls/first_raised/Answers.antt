@@ -1,22 +1,34 @@
-use Rattle.std.proofs.Common.{◌≡◌, subst, arith}
-use Rattle.std.proofs.lemmas.Grind.{common_steps}
-use Rattle.std.specs.BTreeMap.Range.{entries_between}
-use Rattle.std.specs.declared.ops.Bound.TheVariants.{Included}
-use Rattle.std.specs.Ordering.{nat_cmp}
-use Rattle.vx_sched.proofs.PollLemmas.{Left, left-start, left-step, left-least}
+use Rattle.std.proofs.Common.{◌≡◌, ◌<◌, ◌≤◌, ℕ, false, true, length, get_or, subst, sym, ◌∙◌, arith}
+use Rattle.std.proofs.lemmas.Option.{slice_get-get_or}
+use Rattle.vx_sched.specs.Polls.{Flags, is_raised}
+use Rattle.vx_sched.proofs.NumberedLemmas.{IsUp, lowered_before, lowered_all, raised_here, hit_above, skipped_more, skipped_start, blank}
 use Rattle.vx_sched.proofs.polls.first_raised.Goals as goal
 
-pub loop-number-init : goal.loop-number-init
-loop-number-init c =
-    let e : c.into_iter-number-iterator.result ≡ entries_between nat_cmp (Included c.args.from) (Included c.args.upto) c.args.flags.now.entries = grind (arith, common_steps) in
-    rw e (left-start c.args.flags.now.entries c.args.from c.args.upto c.range-number-items.ensures.ordered)
+pub loop-at-init : goal.loop-at-init
+loop-at-init c = skipped_start IsUp c.slots-slots.result.now c.args.from c.place_of-at.result c.place_of-at.ensures.below
 
-pub loop-number-preserved : goal.loop-number-preserved
-loop-number-preserved c =
-    let left = subst (λ es. Left c.args.flags.now.entries c.args.from c.args.upto es) c.in-Some.ensures.steps c.loop-number.invariant in
-    left-step c.args.flags.now.entries c.args.from c.args.upto (c.in-Some.number.now, c.in-Some.flag.now) c.next.new.self left c.if-flag.false
+pub returns-then-slot-upto-clause-none : goal.returns-then-slot-upto-clause-none
+returns-then-slot-upto-clause-none c = λ q f u.
+    subst (λ (flags : Flags). is_raised flags q ≡ false) c.slots-slots.ensures.held
+    (lowered_before c.slots-slots.result.now c.args.from c.loop-at.at blank c.slots-slots.ensures.rise c.loop-at-test.true c.loop-at.invariant q f (omega (arith, u, c.if-slot-upto.true)))
 
-pub returns-then-flag-clause-least : goal.returns-then-flag-clause-least
-returns-then-flag-clause-least c =
-    let left = subst (λ es. Left c.args.flags.now.entries c.args.from c.args.upto es) c.in-Some.ensures.steps c.loop-number.invariant in
-    left-least c.args.flags.now.entries c.args.from c.args.upto (c.in-Some.number.now, c.in-Some.flag.now) c.next.new.self left
+pub returns-then-is_up-clause-raised : goal.returns-then-is_up-clause-raised
+returns-then-is_up-clause-raised c =
+    subst (λ (flags : Flags). is_raised flags (get_or c.slots-slots.result.now c.loop-at.at blank).number ≡ true) c.slots-slots.ensures.held (raised_here c.slots-slots.result.now c.loop-at.at blank c.slots-slots.ensures.rise c.loop-at-test.true (c.is_up.ensures.up c.if-is_up.true))
+
+pub returns-then-is_up-clause-within : goal.returns-then-is_up-clause-within
+returns-then-is_up-clause-within c =
+    let there = slice_get-get_or c.slots-slots.result.now c.loop-at.at blank c.loop-at-test.true in
+    (c.place_of-at.ensures.above c.loop-at.at (get_or c.slots-slots.result.now c.loop-at.at blank) there c.loop-at.auto.at, c.if-slot-upto.false)
+
+pub returns-then-is_up-clause-least : goal.returns-then-is_up-clause-least
+returns-then-is_up-clause-least c = λ q f b.
+    subst (λ (flags : Flags). is_raised flags q ≡ false) c.slots-slots.ensures.held
+    (lowered_before c.slots-slots.result.now c.args.from c.loop-at.at blank c.slots-slots.ensures.rise c.loop-at-test.true c.loop-at.invariant q f b)
+
+pub loop-at-preserved : goal.loop-at-preserved
+loop-at-preserved c = skipped_more IsUp c.slots-slots.result.now c.args.from c.loop-at.at blank c.loop-at-test.true c.loop-at.invariant (c.is_up.ensures.low c.if-is_up.false)
+
+pub returns-clause-none : goal.returns-clause-none
+returns-clause-none c = λ q f u.
+    subst (λ (flags : Flags). is_raised flags q ≡ false) c.slots-slots.ensures.held (lowered_all c.slots-slots.result.now c.args.from c.loop-at.at c.loop-at-test.false c.loop-at.invariant q f)

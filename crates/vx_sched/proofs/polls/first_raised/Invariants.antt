@@ -1,5 +1,5 @@
-use Rattle.vx_sched.proofs.PollLemmas.{Left}
+use Rattle.vx_sched.proofs.NumberedLemmas.{Skipped, IsUp}
 use Rattle.vx_sched.proofs.polls.first_raised.Given as goal
 
-abbrev pub invariant-loop-number : goal.invariant-loop-number
-invariant-loop-number l = Left l.flags.entries l.from l.upto l.number-iterator
+abbrev pub invariant-loop-at : goal.invariant-loop-at
+invariant-loop-at l = Skipped IsUp l.slots l.from l.at

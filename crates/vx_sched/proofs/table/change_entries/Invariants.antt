@@ -5,6 +5,6 @@ use Rattle.vx_sched.specs.Polls.{AreMarked}
 use Rattle.vx_sched.proofs.table.change_entries.Given as goal
 
 abbrev pub invariant-loop-read : goal.invariant-loop-read
-invariant-loop-read l = (all_changed l.change l.reads.entries (drop l.read-index l.span) ≡ all_changed l.change l.initial.reads.entries l.span)
-    × ((longest : ℕ) → IsKept l.initial.reads.entries l.initial.places longest → IsKept l.reads.entries l.places longest)
-    × AreMarked l.reads.entries l.polls
+invariant-loop-read l = (all_changed l.change l.reads (drop l.read-index l.span) ≡ all_changed l.change l.initial.reads l.span)
+    × ((longest : ℕ) → IsKept l.initial.reads l.initial.places longest → IsKept l.reads l.places longest)
+    × AreMarked l.reads l.polls

@@ -9,16 +9,16 @@ use Rattle.vx_sched.proofs.table.change_entry.Goals as goal
 
 pub returns-in-Some-clause-kept : goal.returns-in-Some-clause-kept
 returns-in-Some-clause-kept c longest k =
-    let there : entry_at c.args.reads.now.entries c.args.id ≡ Some c.in-Some.read = grind (arith, common_steps) in
+    let there : entry_at c.args.reads.now c.args.id ≡ Some c.in-Some.read = grind (arith, common_steps) in
     let id = k.keyed c.args.id c.in-Some.read there in
-    changed-table c.args.reads.now.entries c.put.new.reads.entries c.args.places.now c.leave.new.places longest c.in-Some.read c.stage_after-stage.result
+    changed-table c.args.reads.now c.put.new.reads c.args.places.now c.leave.new.places longest c.in-Some.read c.stage_after-stage.result
     k
-    (rw c.put.ensures.entries (sorted-stage c.args.reads.now.entries c.args.id c.in-Some.read.request c.stage_after-stage.result k.sorted))
-    (subst (λ n. entry_at c.args.reads.now.entries n ≡ Some c.in-Some.read) (sym id) there)
+    (rw c.put.ensures.entries (sorted-stage c.args.reads.now c.args.id c.in-Some.read.request c.stage_after-stage.result k.sorted))
+    (subst (λ n. entry_at c.args.reads.now n ≡ Some c.in-Some.read) (sym id) there)
     (λ h. rw c.stage_after-stage.ensures (after-waits c.args.change c.in-Some.read.stage h))
-    (subst (λ n. (q : ℕ) → entry_at c.put.new.reads.entries q ≡ cond (is_at (nat_cmp n) q) (option_map (λ s. record { request = c.in-Some.read.request; stage = s }) c.stage_after-stage.result) (entry_at c.args.reads.now.entries q)) (sym id) c.put.ensures.lookups)
+    (subst (λ n. (q : ℕ) → entry_at c.put.new.reads q ≡ cond (is_at (nat_cmp n) q) (option_map (λ s. record { request = c.in-Some.read.request; stage = s }) c.stage_after-stage.result) (entry_at c.args.reads.now q)) (sym id) c.put.ensures.lookups)
     c.leave.ensures
 
 pub returns-in-Some-clause-marked : goal.returns-in-Some-clause-marked
 returns-in-Some-clause-marked c =
-    marked-changed c.args.reads.now.entries c.put.new.reads.entries c.args.polls.now c.mark.new.polls c.args.id c.in-Some.read.request c.stage_after-stage.result c.requires c.put.ensures.lookups c.mark.ensures
+    marked-changed c.args.reads.now c.put.new.reads c.args.polls.now c.mark.new.polls c.args.id c.in-Some.read.request c.stage_after-stage.result c.requires c.put.ensures.lookups c.mark.ensures

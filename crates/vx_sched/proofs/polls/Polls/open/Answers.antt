@@ -8,11 +8,11 @@ invariant_of-self-in_err-add_flag c =
     let fits : c.args.number < 2 ^ 64 = search rules in
     let small : c.args.number / 64 < 2 ^ 58 = omega arith in
     let smaller : c.args.number / 64 / 64 < 2 ^ 58 = omega arith in
-    let groups = covers-wider c.self.inside.blocks.entries c.self.inside.groups.entries c.open_flag.new.flags.entries (c.args.number / 64 / 64) c.self.invariant.1 smaller c.in_ok-open_flag.ensures.opened in
-    let room = opened-here c.self.inside.groups.entries c.open_flag.new.flags.entries (c.args.number / 64 / 64) c.in_ok-open_flag.ensures.opened in
-    let blocks = covers-wider c.self.inside.numbers.entries c.self.inside.blocks.entries c.open_flag-2.new.flags.entries (c.args.number / 64) c.self.invariant.0 small c.in_ok-open_flag-2.ensures.opened in (
-      subst (λ (flags : Flags). Covers flags c.open_flag-2.new.flags.entries) (sym c.in_err-add_flag.ensures.kept) blocks,
-      covers-more c.self.inside.blocks.entries c.open_flag-2.new.flags.entries c.open_flag.new.flags.entries (c.args.number / 64) groups room c.in_ok-open_flag-2.ensures.opened,
+    let groups = covers-wider c.self.inside.blocks c.self.inside.groups c.open_flag.new.flags (c.args.number / 64 / 64) c.self.invariant.1 smaller c.in_ok-open_flag.ensures.opened in
+    let room = opened-here c.self.inside.groups c.open_flag.new.flags (c.args.number / 64 / 64) c.in_ok-open_flag.ensures.opened in
+    let blocks = covers-wider c.self.inside.numbers c.self.inside.blocks c.open_flag-2.new.flags (c.args.number / 64) c.self.invariant.0 small c.in_ok-open_flag-2.ensures.opened in (
+      subst (λ (flags : Flags). Covers flags c.open_flag-2.new.flags) (sym c.in_err-add_flag.ensures.kept) blocks,
+      covers-more c.self.inside.blocks c.open_flag-2.new.flags c.open_flag.new.flags (c.args.number / 64) groups room c.in_ok-open_flag-2.ensures.opened,
     )
 
 pub invariant_of-self-2 : goal.invariant_of-self-2
@@ -20,10 +20,10 @@ invariant_of-self-2 c =
     let fits : c.args.number < 2 ^ 64 = search rules in
     let small : c.args.number / 64 < 2 ^ 58 = omega arith in
     let smaller : c.args.number / 64 / 64 < 2 ^ 58 = omega arith in
-    let groups = covers-wider c.self.inside.blocks.entries c.self.inside.groups.entries c.open_flag.new.flags.entries (c.args.number / 64 / 64) c.self.invariant.1 smaller c.in_ok-open_flag.ensures.opened in
-    let room = opened-here c.self.inside.groups.entries c.open_flag.new.flags.entries (c.args.number / 64 / 64) c.in_ok-open_flag.ensures.opened in
-    let blocks = covers-wider c.self.inside.numbers.entries c.self.inside.blocks.entries c.open_flag-2.new.flags.entries (c.args.number / 64) c.self.invariant.0 small c.in_ok-open_flag-2.ensures.opened in
-    let place = opened-here c.self.inside.blocks.entries c.open_flag-2.new.flags.entries (c.args.number / 64) c.in_ok-open_flag-2.ensures.opened in (
-      covers-more c.self.inside.numbers.entries c.add_flag.new.flags.entries c.open_flag-2.new.flags.entries c.args.number blocks place c.in_ok-add_flag.ensures.opened,
-      covers-more c.self.inside.blocks.entries c.open_flag-2.new.flags.entries c.open_flag.new.flags.entries (c.args.number / 64) groups room c.in_ok-open_flag-2.ensures.opened,
+    let groups = covers-wider c.self.inside.blocks c.self.inside.groups c.open_flag.new.flags (c.args.number / 64 / 64) c.self.invariant.1 smaller c.in_ok-open_flag.ensures.opened in
+    let room = opened-here c.self.inside.groups c.open_flag.new.flags (c.args.number / 64 / 64) c.in_ok-open_flag.ensures.opened in
+    let blocks = covers-wider c.self.inside.numbers c.self.inside.blocks c.open_flag-2.new.flags (c.args.number / 64) c.self.invariant.0 small c.in_ok-open_flag-2.ensures.opened in
+    let place = opened-here c.self.inside.blocks c.open_flag-2.new.flags (c.args.number / 64) c.in_ok-open_flag-2.ensures.opened in (
+      covers-more c.self.inside.numbers c.add_flag.new.flags c.open_flag-2.new.flags c.args.number blocks place c.in_ok-add_flag.ensures.opened,
+      covers-more c.self.inside.blocks c.open_flag-2.new.flags c.open_flag.new.flags (c.args.number / 64) groups room c.in_ok-open_flag-2.ensures.opened,
     )

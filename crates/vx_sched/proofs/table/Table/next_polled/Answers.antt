@@ -8,29 +8,29 @@ use Rattle.vx_sched.proofs.table.Table.next_polled.Goals as goal
 
 pub returns-in-Some-clause-polled : goal.returns-in-Some-clause-polled
 returns-in-Some-clause-polled c =
-    let stands = stands-kept c.self.inside.reads.entries c.self.inside.places c.self.inside.longest c.self.invariant.kept in
+    let stands = stands-kept c.self.inside.reads c.self.inside.places c.self.inside.longest c.self.invariant.kept in
     found-along (λ n. polled_at c.args.self.now n ≡ true) c.in-Some.id c.waiting.result c.waiting.ensures.keyed
-    (sym (ap (λ (reads : Reads). polled_at reads c.in-Some.id) c.self.view_is) ∙ polled-seen c.self.inside.reads.entries c.in-Some.id stands.keyed
-    ∙ sym (raised-polled c.self.inside.reads.entries c.self.inside.polls c.self.invariant.marked c.in-Some.id) ∙ c.in-Some.ensures.raised)
+    (sym (ap (λ (reads : Reads). polled_at reads c.in-Some.id) c.self.view_is) ∙ polled-seen c.self.inside.reads c.in-Some.id stands.keyed
+    ∙ sym (raised-polled c.self.inside.reads c.self.inside.polls c.self.invariant.marked c.in-Some.id) ∙ c.in-Some.ensures.raised)
 
 pub returns-in-Some-clause-least : goal.returns-in-Some-clause-least
 returns-in-Some-clause-least c =
-    let stands = stands-kept c.self.inside.reads.entries c.self.inside.places c.self.inside.longest c.self.invariant.kept in
+    let stands = stands-kept c.self.inside.reads c.self.inside.places c.self.inside.longest c.self.invariant.kept in
     found-along (λ n. (q : ℕ) → c.args.from ≤ q → q < n → polled_at c.args.self.now q ≡ true → contains nat_cmp c.args.taken.now q ≡ true) c.in-Some.id c.waiting.result c.waiting.ensures.keyed
-    (λ q f l p. c.in-Some.ensures.least q f l (raised-polled c.self.inside.reads.entries c.self.inside.polls c.self.invariant.marked q
-    ∙ sym (polled-seen c.self.inside.reads.entries q stands.keyed) ∙ ap (λ (reads : Reads). polled_at reads q) c.self.view_is ∙ p))
+    (λ q f l p. c.in-Some.ensures.least q f l (raised-polled c.self.inside.reads c.self.inside.polls c.self.invariant.marked q
+    ∙ sym (polled-seen c.self.inside.reads q stands.keyed) ∙ ap (λ (reads : Reads). polled_at reads q) c.self.view_is ∙ p))
 
 pub returns-in-Some-clause-none : goal.returns-in-Some-clause-none
 returns-in-Some-clause-none c =
-    let stands = stands-kept c.self.inside.reads.entries c.self.inside.places c.self.inside.longest c.self.invariant.kept in
+    let stands = stands-kept c.self.inside.reads c.self.inside.places c.self.inside.longest c.self.invariant.kept in
     found-some _ c.args.self.now c.in-Some.id
-    (sym (ap (λ (reads : Reads). polled_at reads c.in-Some.id) c.self.view_is) ∙ polled-seen c.self.inside.reads.entries c.in-Some.id stands.keyed
-    ∙ sym (raised-polled c.self.inside.reads.entries c.self.inside.polls c.self.invariant.marked c.in-Some.id) ∙ c.in-Some.ensures.raised)
+    (sym (ap (λ (reads : Reads). polled_at reads c.in-Some.id) c.self.view_is) ∙ polled-seen c.self.inside.reads c.in-Some.id stands.keyed
+    ∙ sym (raised-polled c.self.inside.reads c.self.inside.polls c.self.invariant.marked c.in-Some.id) ∙ c.in-Some.ensures.raised)
     c.waiting.result c.waiting.ensures.value
 
 pub returns-in-None-clause-none : goal.returns-in-None-clause-none
 returns-in-None-clause-none c q f p =
-    let stands = stands-kept c.self.inside.reads.entries c.self.inside.places c.self.inside.longest c.self.invariant.kept in
-    let entry = sym (polled-seen c.self.inside.reads.entries q stands.keyed) ∙ ap (λ (reads : Reads). polled_at reads q) c.self.view_is ∙ p in
-    c.in-None.ensures.none q f (polled-small c.self.inside.reads.entries c.self.inside.places c.self.inside.longest c.self.invariant.kept q entry)
-    (raised-polled c.self.inside.reads.entries c.self.inside.polls c.self.invariant.marked q ∙ entry)
+    let stands = stands-kept c.self.inside.reads c.self.inside.places c.self.inside.longest c.self.invariant.kept in
+    let entry = sym (polled-seen c.self.inside.reads q stands.keyed) ∙ ap (λ (reads : Reads). polled_at reads q) c.self.view_is ∙ p in
+    c.in-None.ensures.none q f (polled-small c.self.inside.reads c.self.inside.places c.self.inside.longest c.self.invariant.kept q entry)
+    (raised-polled c.self.inside.reads c.self.inside.polls c.self.invariant.marked q ∙ entry)

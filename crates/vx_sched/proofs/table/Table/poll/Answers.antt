@@ -9,17 +9,17 @@ use Rattle.vx_sched.proofs.table.Table.poll.Goals as goal
 pub invariant_of-self : goal.invariant_of-self
 invariant_of-self c =
     let kept = c.change_entry.ensures.kept c.self.inside.longest c.self.invariant.kept in
-    let stands = stands-kept c.self.inside.reads.entries c.self.inside.places c.self.inside.longest c.self.invariant.kept in
-    let new = subst Stands c.change_entry.ensures.changed (stands-kept c.change_entry.new.reads.entries c.change_entry.new.places c.self.inside.longest kept) in
+    let stands = stands-kept c.self.inside.reads c.self.inside.places c.self.inside.longest c.self.invariant.kept in
+    let new = subst Stands c.change_entry.ensures.changed (stands-kept c.change_entry.new.reads c.change_entry.new.places c.self.inside.longest kept) in
     record {
       kept = kept;
-      grouped = subst AreGrouped (sym c.change_entry.ensures.changed) (simple-grouped Poll poll_read poll-simple c.self.inside.reads.entries c.args.id stands new c.self.invariant.grouped);
+      grouped = subst AreGrouped (sym c.change_entry.ensures.changed) (simple-grouped Poll poll_read poll-simple c.self.inside.reads c.args.id stands new c.self.invariant.grouped);
       marked = c.change_entry.ensures.marked;
     }
 
 pub returns : goal.returns
 returns c =
     let kept = c.change_entry.ensures.kept c.self.inside.longest c.self.invariant.kept in
-    let stands = stands-kept c.self.inside.reads.entries c.self.inside.places c.self.inside.longest c.self.invariant.kept in
-    let new = subst Stands c.change_entry.ensures.changed (stands-kept c.change_entry.new.reads.entries c.change_entry.new.places c.self.inside.longest kept) in
-    rw (← c.self.view_is) (ap seen c.change_entry.ensures.changed ∙ simple-view Poll poll_read poll-simple c.self.inside.reads.entries c.args.id stands new)
+    let stands = stands-kept c.self.inside.reads c.self.inside.places c.self.inside.longest c.self.invariant.kept in
+    let new = subst Stands c.change_entry.ensures.changed (stands-kept c.change_entry.new.reads c.change_entry.new.places c.self.inside.longest kept) in
+    rw (← c.self.view_is) (ap seen c.change_entry.ensures.changed ∙ simple-view Poll poll_read poll-simple c.self.inside.reads c.args.id stands new)

@@ -10,23 +10,23 @@ use Rattle.vx_sched.proofs.table.Table.take.Goals as goal
 pub invariant_of-self : goal.invariant_of-self
 invariant_of-self c =
     let kept = c.change_entries.ensures.kept c.self.inside.longest c.self.invariant.kept in
-    let stands = stands-kept c.self.inside.reads.entries c.self.inside.places c.self.inside.longest c.self.invariant.kept in
-    let changed : c.change_entries.new.reads.entries ≡ all_changed (Take (first_number c.args.span.now) (length c.args.span.now)) c.self.inside.reads.entries c.args.span.now =
-    c.change_entries.ensures.changed ∙ ap (λ n. all_changed (Take n (length c.args.span.now)) c.self.inside.reads.entries c.args.span.now) c.number_of.ensures in
-    let new = subst Stands changed (stands-kept c.change_entries.new.reads.entries c.change_entries.new.places c.self.inside.longest kept) in
-    let waits = waits-seen c.self.inside.reads.entries c.args.span.now stands.keyed (rw c.self.view_is c.requires.waits) in
+    let stands = stands-kept c.self.inside.reads c.self.inside.places c.self.inside.longest c.self.invariant.kept in
+    let changed : c.change_entries.new.reads ≡ all_changed (Take (first_number c.args.span.now) (length c.args.span.now)) c.self.inside.reads c.args.span.now =
+    c.change_entries.ensures.changed ∙ ap (λ n. all_changed (Take n (length c.args.span.now)) c.self.inside.reads c.args.span.now) c.number_of.ensures in
+    let new = subst Stands changed (stands-kept c.change_entries.new.reads c.change_entries.new.places c.self.inside.longest kept) in
+    let waits = waits-seen c.self.inside.reads c.args.span.now stands.keyed (rw c.self.view_is c.requires.waits) in
     record {
       kept = kept;
-      grouped = subst AreGrouped (sym changed) (take-grouped c.self.inside.reads.entries c.args.span.now stands new c.self.invariant.grouped c.requires.some c.requires.order waits);
+      grouped = subst AreGrouped (sym changed) (take-grouped c.self.inside.reads c.args.span.now stands new c.self.invariant.grouped c.requires.some c.requires.order waits);
       marked = c.change_entries.ensures.marked;
     }
 
 pub returns : goal.returns
 returns c =
     let kept = c.change_entries.ensures.kept c.self.inside.longest c.self.invariant.kept in
-    let stands = stands-kept c.self.inside.reads.entries c.self.inside.places c.self.inside.longest c.self.invariant.kept in
-    let changed : c.change_entries.new.reads.entries ≡ all_changed (Take (first_number c.args.span.now) (length c.args.span.now)) c.self.inside.reads.entries c.args.span.now =
-    c.change_entries.ensures.changed ∙ ap (λ n. all_changed (Take n (length c.args.span.now)) c.self.inside.reads.entries c.args.span.now) c.number_of.ensures in
-    let new = subst Stands changed (stands-kept c.change_entries.new.reads.entries c.change_entries.new.places c.self.inside.longest kept) in
-    let waits = waits-seen c.self.inside.reads.entries c.args.span.now stands.keyed (rw c.self.view_is c.requires.waits) in
-    rw (← c.self.view_is) (ap seen changed ∙ take-view c.self.inside.reads.entries c.args.span.now stands new c.self.invariant.grouped c.requires.some c.requires.order waits)
+    let stands = stands-kept c.self.inside.reads c.self.inside.places c.self.inside.longest c.self.invariant.kept in
+    let changed : c.change_entries.new.reads ≡ all_changed (Take (first_number c.args.span.now) (length c.args.span.now)) c.self.inside.reads c.args.span.now =
+    c.change_entries.ensures.changed ∙ ap (λ n. all_changed (Take n (length c.args.span.now)) c.self.inside.reads c.args.span.now) c.number_of.ensures in
+    let new = subst Stands changed (stands-kept c.change_entries.new.reads c.change_entries.new.places c.self.inside.longest kept) in
+    let waits = waits-seen c.self.inside.reads c.args.span.now stands.keyed (rw c.self.view_is c.requires.waits) in
+    rw (← c.self.view_is) (ap seen changed ∙ take-view c.self.inside.reads c.args.span.now stands new c.self.invariant.grouped c.requires.some c.requires.order waits)

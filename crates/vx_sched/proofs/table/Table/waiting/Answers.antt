@@ -5,9 +5,9 @@ use Rattle.vx_sched.proofs.table.Table.waiting.Goals as goal
 
 pub returns-clause-value : goal.returns-clause-value
 returns-clause-value c =
-    let stands = stands-kept c.self.inside.reads.entries c.self.inside.places c.self.inside.longest c.self.invariant.kept in
-    rw (← c.self.view_is) (c.if_waits.ensures ∙ ap if_waits c.entry-found.ensures ∙ sym (waiting-seen c.self.inside.reads.entries c.args.id stands.keyed))
+    let stands = stands-kept c.self.inside.reads c.self.inside.places c.self.inside.longest c.self.invariant.kept in
+    rw (← c.self.view_is) (c.if_waits.ensures ∙ ap if_waits c.entry-found.ensures ∙ sym (waiting-seen c.self.inside.reads c.args.id stands.keyed))
 
 pub returns-clause-keyed : goal.returns-clause-keyed
 returns-clause-keyed c =
-    rw (c.if_waits.ensures, c.entry-found.ensures) (waiting-fits c.self.inside.reads.entries c.self.inside.places c.self.inside.longest c.args.id c.self.invariant.kept)
+    rw (c.if_waits.ensures, c.entry-found.ensures) (waiting-fits c.self.inside.reads c.self.inside.places c.self.inside.longest c.args.id c.self.invariant.kept)
