@@ -4,3 +4,4 @@ pub mod RowsLemmas
 pub mod ExactLemmas
 pub mod NameSteps
 pub mod WordSteps
+pub mod SameNames

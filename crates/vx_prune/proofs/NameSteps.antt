@@ -1,5 +1,5 @@
 -- Steps of reading the names of a path.
-use Rattle.std.proofs.Common.{◌≡◌, ℕ, zero, suc, ◌+◌, ◌-◌, ◌<◌, ◌≤◌, List, [], ◌∷◌, ◌++◌, length, map, Option, Some, None, refl, ap, sym, ◌∙◌, arith, append_assoc}
+use Rattle.std.proofs.Common.{◌≡◌, ℕ, zero, suc, ◌+◌, ◌-◌, ◌<◌, ◌≤◌, List, [], ◌∷◌, ◌++◌, length, map, Option, Some, None, refl, ap, ◌∙◌, arith}
 use Rattle.std.specs.Prelude.{String, string_bytes, codes, Ok, Err, ◌==◌, true, false}
 use Rattle.std.specs.Global.{Global}
 use Rattle.std.specs.Option.{option_map}
@@ -7,7 +7,7 @@ use Rattle.std.proofs.lemmas.List.{append-nil}
 use Rattle.vx_base.specs.Checks.{◌lacking◌}
 use Rattle.vx_data.specs.declared.text_error.TextError.TheVariants.{BadText}
 use Rattle.vx_data.specs.TextsRead.{quoted_in, after}
-use Rattle.vx_prune.specs.PredicateWords.{names_in, names_of}
+use Rattle.vx_prune.specs.PredicateWords.{names_in}
 
 -- names so far, before those still to come
 abbrev pub names_before : List (String Global) → Option (List (List ℕ)) → Option (List (List ℕ))

@@ -1,5 +1,5 @@
 -- Steps of reading predicates from words.
-use Rattle.std.proofs.Common.{◌≡◌, ℕ, zero, suc, ◌-◌, ◌<◌, List, refl, ap, arith}
+use Rattle.std.proofs.Common.{◌≡◌, ℕ, zero, suc, ◌-◌, ◌<◌, List, ap, arith}
 use Rattle.vx_prune.specs.PredicateWords.{word_in, predicate_in}
 
 one-less : (n : ℕ) → n ≡ suc n - 1

@@ -1,6 +1,6 @@
 -- Predicates as words spell them: each node in front of its operands.
-use Rattle.std.specs.Prelude.{◌≡◌, ℕ, zero, suc, ◌==◌, Bool, true, false, if◌then◌else◌}
-use Rattle.std.specs.Prelude.{List, [], ◌∷◌, length, codes, Option, Some, None, Result, Ok, Err}
+use Rattle.std.specs.Prelude.{ℕ, zero, suc, ◌==◌, Bool, true, false, if◌then◌else◌}
+use Rattle.std.specs.Prelude.{List, [], ◌∷◌, length, codes, Option, Some, None}
 use Rattle.std.specs.List.{list_any}
 use Rattle.std.specs.Option.{option_map, option_and_then}
 use Rattle.std.specs.Result.{result_ok}
@@ -8,7 +8,6 @@ use Rattle.std.specs.Str.{bytes_eq}
 use Rattle.vx_data.specs.Dtype.{Dtype}
 use Rattle.vx_data.specs.Scalar.{Value, flag, number, words}
 use Rattle.vx_data.specs.TextsRead.{quoted_in, after, dtype_of_text}
-use Rattle.vx_rows.specs.declared.predicate.Comparison.{Comparison}
 use Rattle.vx_rows.specs.declared.predicate.Comparison.TheVariants.{Eq, Ne, Lt, Le, Gt, Ge}
 use Rattle.vx_rows.specs.Predicates.{Pred, lit, root, path, cast, add, compare, both, either, negated, null_test, present_test}
 use Rattle.vx_rows.specs.ReadRows.{rows_of}

@@ -4,7 +4,7 @@ use Rattle.vx_data.specs.Layout.{LayoutTree, dtype_of, rows_of}
 use Rattle.vx_rows.specs.LayoutReaders.{tree_of}
 use Rattle.vx_rows.specs.Predicates.{Pred}
 use Rattle.vx_footer.specs.FileStats.{FileStats}
-use Rattle.vx_prune.specs.declared.stats_reader.FileStatsLayoutReader.{FileStatsLayoutReader}
+use Rattle.vx_prune.specs.declared.file_stats_layout_reader.FileStatsLayoutReader.{FileStatsLayoutReader}
 use Rattle.vx_prune.specs.Never.{never}
 
 -- the layout and the statistics of a reader
