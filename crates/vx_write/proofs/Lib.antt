@@ -40,3 +40,4 @@ pub mod ReadBackColumns
 pub mod ReadBackRows
 pub mod ReadBackLeaves
 pub mod ReadBackPushed
+mod WriterLemmas

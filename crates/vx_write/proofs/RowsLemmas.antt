@@ -92,7 +92,7 @@ few-or-many n m not_many = elim (nat_lt n m) as (λ b. nat_lt n m ≡ b → n < 
     no-less : (a b : ℕ) → nat_lt a b ≡ false → b ≤ a
     no-less a b h = grind (arith, nat_tests)
 
-accepted-more : (o : Options) (d : Dtype) (past : List Rows) (c : Rows) (x : Unit {0}) → Accepted o d past → PushAnswers d (count_after past) (push_checks o d past c) c (Ok x) → Accepted o d (c ∷ past)
+pub accepted-more : (o : Options) (d : Dtype) (past : List Rows) (c : Rows) (x : Unit {0}) → Accepted o d past → PushAnswers d (count_after past) (push_checks o d past c) c (Ok x) → Accepted o d (c ∷ past)
 accepted-more o d past c x h a =
     let chunk = a.accepted in
     let few = few-or-many (count_after past + rows_len c) (2 ^ 64) (λ many. no-refusal x RowsOverflow (a.few chunk many)) in

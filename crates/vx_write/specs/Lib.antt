@@ -24,3 +24,4 @@ pub mod Taken
 pub mod Written
 pub mod OpensAgain
 pub mod Streamed
+pub mod Writers

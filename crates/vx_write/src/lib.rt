@@ -1,6 +1,8 @@
 //! Writes files of rows, which open again.
 #![tactic(auto)]
 
+mod blocking;
+mod buffered_bytes;
 mod chunk_source;
 mod column;
 mod column_sizes;
@@ -28,6 +30,7 @@ mod read_back;
 mod segment_sink;
 mod sending;
 mod session_ext;
+mod sound_writer;
 mod splitting;
 mod strategy;
 mod streaming;
@@ -35,8 +38,11 @@ mod summary;
 mod tail;
 mod whole_file;
 mod write_error;
+mod writer;
 mod writing;
 
+pub use blocking::{BlockingWrite, BlockingWriter};
+pub use buffered_bytes::BufferedBytesTracker;
 pub use chunk_source::{ChunkError, ChunkSource, VecChunks};
 pub use counting::CountingVortexWrite;
 pub use cut_laws::pushes_may_be_divided;
@@ -48,4 +54,5 @@ pub use strategy::{FlatStrategy, LayoutStrategy, LeafStrategy, WriteStrategyBuil
 pub use summary::WriteSummary;
 pub use whole_file::write_rows;
 pub use write_error::WriteError;
+pub use writer::Writer;
 pub use writing::{Written, write};

@@ -14,6 +14,7 @@ ghost use Rattle.vx_write.specs.OpensAgain.{AreTold};
 ghost use Rattle.vx_write.specs.Written.{coding_of};
 ghost use Rattle.vx_write.specs.Options.{default_options, with_value, with_values, values_checks, keys_of, layout_ids as layouts_of};
 
+use crate::buffered_bytes::BufferedBytesTracker;
 use crate::sending::ChunkCoding;
 use crate::{LayoutStrategy, WriteStrategyBuilder};
 use std::alloc::{AllocError, Global};
@@ -40,6 +41,7 @@ pub struct VortexWriteOptions {
     statistics: Vec<Stat>,
     values: Vec<(String, ByteBuffer)>,
     version: FileVersion,
+    buffered: BufferedBytesTracker,
 }
 
 impl Model for VortexWriteOptions {
@@ -246,6 +248,7 @@ impl VortexWriteOptions {
             statistics,
             values: Vec::new(alloc),
             version: FileVersion::V1,
+            buffered: BufferedBytesTracker::new(alloc)?,
         })
     }
 
@@ -332,6 +335,16 @@ impl VortexWriteOptions {
         ensures memory { result ≡ Err WriteError.OutOfMemory → ⊥ }
     {
         check_values(self.version, &self.values)
+    }
+
+    /// How many bytes the rows take that the writer of these options holds back, as it notes it. Only memory refuses.
+    pub fn buffered_bytes_tracker(&self) -> Result<BufferedBytesTracker, AllocError> {
+        self.buffered.share()
+    }
+
+    /// Notes how many bytes are held back.
+    pub(crate) fn note_buffered(&self, count: u64) {
+        self.buffered.set(count);
     }
 
     /// How columns are laid out.
