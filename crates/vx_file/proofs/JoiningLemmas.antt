@@ -1,5 +1,5 @@
 -- Columns that are put behind one another, and zipped to structs.
-use Rattle.std.proofs.Common.{◌≡◌, ℕ, zero, suc, ◌+◌, ◌-◌, ◌<◌, ◌≤◌, Bool, true, false, List, [], ◌∷◌, ◌++◌, length, map, get_or, drop, Option, Some, None, refl, ap, sym, ◌∙◌, subst, arith, append_assoc, add-one, drop-cons}
+use Rattle.std.proofs.Common.{◌≡◌, ℕ, zero, suc, ◌+◌, ◌<◌, ◌≤◌, Bool, true, false, List, [], ◌∷◌, ◌++◌, length, map, get_or, drop, Option, Some, None, refl, ap, sym, ◌∙◌, subst, arith, append_assoc, add-one, drop-cons}
 use Rattle.std.specs.Global.{Global}
 use Rattle.std.specs.Prelude.{String, string_bytes, ◌==◌, ◌&&◌, replicate, sum_by, is_some, unwrap_or, slice_index_or}
 use Rattle.std.specs.List.{list_all, AllByRecursion}
@@ -8,18 +8,18 @@ use Rattle.std.proofs.lemmas.List.{append-nil, drop_all}
 use Rattle.std.proofs.lemmas.List.Sums.{sum_by-cons}
 use Rattle.std.proofs.lemmas.Bool.{eqb-true}
 use Rattle.std.proofs.lemmas.List.{length-map, length-replicate}
-use Rattle.vx_data.specs.declared.layout_kind.LayoutKind.TheVariants.{Flat, Chunked, Struct}
+use Rattle.vx_data.specs.declared.layout_kind.LayoutKind.TheVariants.{Chunked, Struct}
 use Rattle.vx_data.specs.declared.dtype.DType.{DType}
 use Rattle.vx_data.specs.Dtype.{Dtype, FieldList, bool, int, text, struct, no_fields, field, dtype_view, pairs_view as types_view}
-use Rattle.vx_data.specs.Layout.{child_dtypes, dtypes_of, validity}
+use Rattle.vx_data.specs.Layout.{dtypes_of, validity}
 use Rattle.vx_rows.specs.declared.column.Column.{Column}
 use Rattle.vx_rows.specs.Columns.{Bools, Structs, may_hold, are_there}
-use Rattle.vx_rows.specs.LayoutRows.{joined, zipped, struct_rows, there_in}
-use Rattle.vx_rows.specs.Rows.{Rows, FieldRows, bools, ints, texts, structs, no_columns, column, columns_of as fields_in_order, column_view, viewed, dtype_of, types_of, rows_len, HasRows, AllHaveRows, IsColumn, AreColumns}
+use Rattle.vx_rows.specs.LayoutRows.{joined, zipped}
+use Rattle.vx_rows.specs.Rows.{Rows, FieldRows, bools, ints, texts, structs, no_columns, column, columns_of as fields_in_order, column_view, viewed, dtype_of, types_of, rows_len, AllHaveRows, IsColumn, AreColumns}
 use Rattle.vx_rows.specs.Parts.{part, appended, fields_appended}
 use Rattle.vx_rows.specs.Trees.{before}
 use Rattle.vx_rows.specs.ReadRows.{no_rows, no_rows_each}
-use Rattle.vx_file.specs.Scans.{seen, AreChunks, AreFields, AreColumnsOf, AreParts, structs_over, has_rows}
+use Rattle.vx_file.specs.Scans.{seen, AreChunks, AreFields, AreColumnsOf, AreParts, structs_over}
 use Rattle.vx_rows.proofs.ColumnLaws.{appended_type, appended_is_column, column_rows, columns_rows, all-kept}
 
 -- ---- columns behind one another

@@ -17,3 +17,5 @@ pub mod ReadingLemmas
 pub mod ScanningLemmas
 pub mod SplitLemmas
 pub mod ReaderScanning
+pub mod KeptReaderLemmas
+pub mod MultiLemmas

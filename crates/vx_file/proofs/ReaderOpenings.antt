@@ -1,21 +1,19 @@
 -- A prepared file is an opened one: its session, its reader and its cache are the source of its segments.
-use Rattle.std.proofs.Common.{◌≡◌, ℕ, ◌≤◌, Bool, List, [], Option, Some, Result, Err, refl, sym, ap, subst, ◌∙◌, arith, inr}
+use Rattle.std.proofs.Common.{◌≡◌, ℕ, ◌≤◌, Bool, List, [], Option, Some, sym, ap, subst, arith, inr}
 use Rattle.vx_base.specs.Caches.{CacheState}
 use Rattle.vx_base.specs.Readers.{ReaderState, ReaderSettings, SameReader, settings_of}
 use Rattle.vx_base.specs.declared.segment.SegmentSpec.{SegmentSpec}
 use Rattle.vx_footer.specs.Footers.{FooterContent, segment_table}
 use Rattle.vx_source.specs.Bytes.{HasBytes, IsEnd, TellsSlices}
 use Rattle.vx_source.specs.Kept.{Kept, tail_start}
-use Rattle.vx_source.specs.Sources.{HasHistory, AreOfFile}
+use Rattle.vx_source.specs.Sources.{HasHistory}
 use Rattle.vx_source.specs.Stands.{Stands}
 use Rattle.vx_file.specs.declared.metadata.MetadataValue.{MetadataValue}
 use Rattle.vx_file.specs.declared.prepared.Prepared.{Prepared}
-use Rattle.vx_file.specs.declared.served.ServeError.{ServeError}
 use Rattle.vx_file.specs.declared.served.ServeError.TheVariants.{OutOfMemory}
-use Rattle.vx_file.specs.OpenRead.{Held, OpensRead, NotOpened}
-use Rattle.vx_file.specs.Plans.{Plan, table_world, world_of}
-use Rattle.vx_file.specs.Prepared.{PreparedFrom, PrepareCause}
-use Rattle.vx_file.specs.Serving.{FaultRose}
+use Rattle.vx_file.specs.OpenRead.{OpensRead, NotOpened}
+use Rattle.vx_file.specs.Plans.{Plan, table_world}
+use Rattle.vx_file.specs.Prepared.{PreparedFrom}
 use Rattle.vx_file.proofs.Prepares.{same-settings}
 use Rattle.vx_file.proofs.Serves.{own-world, own-bytes}
 

@@ -1,7 +1,6 @@
 -- Scans of files that are read, and of files that are skipped.
-use Rattle.std.proofs.Common.{◌≡◌, ℕ, Bool, true, false, List, [], length, Option, Some, None, refl, ap, sym, ◌∙◌, subst}
+use Rattle.std.proofs.Common.{◌≡◌, ℕ, Bool, true, false, List, [], Option, Some, None, refl, ap, sym, ◌∙◌, subst}
 use Rattle.std.specs.Prelude.{filter}
-use Rattle.std.specs.List.{AllByRecursion}
 use Rattle.std.proofs.lemmas.List.Elements.{recursion_from_All}
 use Rattle.vx_data.specs.Dtype.{Dtype, bool, int, text, struct}
 use Rattle.vx_data.specs.Layout.{dtype_of as type_of_tree, rows_of as tree_rows}
@@ -9,15 +8,14 @@ use Rattle.vx_footer.specs.FileStats.{FileStats}
 use Rattle.vx_footer.specs.Footers.{FooterContent}
 use Rattle.vx_prune.specs.Never.{never}
 use Rattle.vx_prune.proofs.RowsLemmas.{pruned_rows}
-use Rattle.vx_rows.specs.RowValues.{Row}
 use Rattle.vx_rows.specs.ReadRows.{no_rows}
 use Rattle.vx_rows.specs.Rows.{Rows, rows_len, dtype_of, HasRows, IsColumn}
 use Rattle.vx_rows.specs.Truth.{satisfies}
 use Rattle.vx_rows.proofs.ColumnLaws.{column_rows, rows_are}
 use Rattle.vx_source.specs.Sources.{SourceState}
 use Rattle.vx_file.specs.Kept.{all_rows}
-use Rattle.vx_file.specs.Scans.{IsRead, IsOf, bytes_in}
-use Rattle.vx_file.specs.Scanned.{Filter, never_met, is_skipped, matching, TellsOf, HasMatching, IsScanned}
+use Rattle.vx_file.specs.Scans.{IsRead, IsOf}
+use Rattle.vx_file.specs.Scanned.{Filter, never_met, is_skipped, matching, TellsOf, IsScanned}
 use Rattle.vx_file.proofs.KeepingLemmas.{kept_satisfying, none_satisfies}
 
 some-same : {A : Type 0} → (x y : A) → Some x ≡ Some y → x ≡ y

@@ -1,5 +1,5 @@
 -- Footers that are kept by key, the most recently used one first.
-use Rattle.std.specs.Prelude.{ℕ, ◌+◌, ◌-◌, ◌/◌, max, nat_le, if◌then◌else◌, List, [], ◌∷◌, map, string_bytes, Option, Some, None}
+use Rattle.std.specs.Prelude.{ℕ, ◌+◌, ◌-◌, ◌/◌, max, nat_le, if◌then◌else◌, List, [], ◌∷◌, Option, Some, None}
 use Rattle.std.specs.Str.{bytes_eq}
 use Rattle.std.specs.Map.{remove_entry}
 use Rattle.vx_footer.specs.Footers.{FooterValue}

@@ -22,3 +22,5 @@ pub mod Scanned
 pub mod ReaderScans
 pub mod Splits
 pub mod LayoutReaders
+pub mod KeptReaders
+pub mod MultiFiles

@@ -2,7 +2,7 @@
 use Rattle.std.specs.Prelude.{◌≡◌, ℕ, Bool, true, false, List, length, Option, Some, None, filter}
 use Rattle.std.specs.Option.{option_map}
 use Rattle.vx_data.specs.Dtype.{Dtype, bool, int, text, struct}
-use Rattle.vx_data.specs.Layout.{LayoutTree, dtype_of as type_of_tree, rows_of as tree_rows}
+use Rattle.vx_data.specs.Layout.{dtype_of as type_of_tree, rows_of as tree_rows}
 use Rattle.vx_footer.specs.FileStats.{FileStats}
 use Rattle.vx_footer.specs.Footers.{FooterContent}
 use Rattle.vx_prune.specs.Never.{never}

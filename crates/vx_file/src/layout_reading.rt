@@ -78,7 +78,7 @@ fn segment_of(layout: &Layout) -> SegmentId
 }
 
 /// Puts a column behind others.
-fn add(columns: &mut Vec<Column>, column: Column) -> Result<(), AllocError>
+pub(crate) fn add(columns: &mut Vec<Column>, column: Column) -> Result<(), AllocError>
     ensures { OnOk result (seen columns.new.items ≡ seen columns.old.items ++ column_view column ∷ []) }
 {
     columns.push(column)?;

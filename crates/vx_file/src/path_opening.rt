@@ -1,5 +1,5 @@
 //! Opens files by their names.
-ghost use Rattle.std.specs.Prelude.{◌≡◌, Err, IfOk};
+ghost use Rattle.std.specs.Prelude.{◌≡◌, ◌⊎◌, Err, IfOk};
 ghost use Rattle.vx_base.specs.Counts.{Rises};
 ghost use Rattle.vx_base.specs.Openers.{AsksFor, SameOpener};
 ghost use Rattle.vx_file.specs.OpenRead.{OpensPath, FailsPath};
@@ -45,6 +45,8 @@ impl<C: SegmentCache> VortexOpenOptions<C> {
             × Rises 1 (F.state files.old).faults (F.state files.new).faults }
         ensures fails { (e : ServeError) → result ≡ Err (errors.Serve e)
             → FailsPath self.options path.now (F.state files.old) (F.state files.new) (C.state self.cache) e }
+        ensures memory { result ≡ Err errors.OutOfMemory → AsksFor path.now (F.state files.old) (F.state files.new)
+            ⊎ ((F.state files.new).asked ≡ (F.state files.old).asked) }
         ensures session { IfOk result (λ f. f.session ≡ self.session) }
         ensures same { SameOpener (F.state files.old) (F.state files.new) }
     {

@@ -45,7 +45,7 @@ fn skips(filter: &Option<Bound>, footer: &Footer) -> bool
 }
 
 /// A column of a type without rows. Only memory refuses.
-fn empty(alloc: Global, dtype: &DType) -> Result<Column, AllocError>
+pub(crate) fn empty(alloc: Global, dtype: &DType) -> Result<Column, AllocError>
     ensures value { IfOk result (λ c. column_view c ≡ no_rows (dtype_view dtype.now)) }
     ensures typed { IfOk result (λ c. dtype_of (column_view c) ≡ dtype_view dtype.now) }
     ensures sound { IfOk result (λ c. IsColumn (rows_len (column_view c)) (column_view c)) }

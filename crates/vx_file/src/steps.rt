@@ -55,6 +55,14 @@ fn answer_step<R: Reader, C: SegmentCache>(
     }
 }
 
+/// No reply, with room for so many. Only memory refuses.
+fn no_replies(alloc: Global, count: usize) -> Result<Sequence<Reply>, AllocError>
+    ensures { IfOk result (λ replies. replies ≡ []) }
+{
+    let replies = Vec::with_capacity(alloc, count)?;
+    Ok(Sequence::from_vec(replies))
+}
+
 /// Answers the steps of a script, one reply each.
 pub(crate) fn answer_steps<R: Reader, C: SegmentCache>(
     alloc: Global,
@@ -73,7 +81,7 @@ pub(crate) fn answer_steps<R: Reader, C: SegmentCache>(
     ensures same { SameReader (R.state reader.old) (R.state reader.new) }
     ensures same_cache { SameCache (C.state cache.old) (C.state cache.new) }
 {
-    let mut replies = Sequence::new(alloc);
+    let mut replies = no_replies(alloc, script.len())?;
     for step in script {
         let reply = answer_step(alloc, session, reader, cache, *step)?;
         replies.push(reply)?;

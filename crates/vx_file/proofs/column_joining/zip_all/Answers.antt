@@ -1,9 +1,7 @@
-use Rattle.std.proofs.Common.{◌≡◌, true, length, rules, sym, ap, subst, ◌∙◌}
-use Rattle.std.specs.Prelude.{is_some, replicate}
-use Rattle.std.specs.List.{list_all}
+use Rattle.std.proofs.Common.{◌≡◌, true, length, rules, ap, ◌∙◌}
+use Rattle.std.specs.Prelude.{replicate}
 use Rattle.std.proofs.lemmas.List.{length-replicate}
 use Rattle.vx_data.specs.Dtype.{pairs_view as types_view}
-use Rattle.vx_rows.specs.LayoutRows.{zipped}
 use Rattle.vx_rows.specs.Rows.{pairs_view}
 use Rattle.vx_file.specs.Scans.{seen}
 use Rattle.vx_file.proofs.JoiningLemmas.{fields_zipped, names_long, all_there}

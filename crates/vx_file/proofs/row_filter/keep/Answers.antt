@@ -2,7 +2,7 @@ use Rattle.std.proofs.Common.{◌≤◌, length, rules, sym, ap, subst, ◌∙�
 use Rattle.vx_data.specs.Dtype.{dtype_view}
 use Rattle.vx_rows.specs.Rows.{Rows, IsColumn, column_view, rows_len, dtype_of}
 use Rattle.vx_rows.proofs.ColumnLaws.{column_rows}
-use Rattle.vx_file.proofs.KeepingLemmas.{Keeps, keeps_none, keeps_more, keeps_all}
+use Rattle.vx_file.proofs.KeepingLemmas.{keeps_none, keeps_more, keeps_all}
 use Rattle.vx_file.proofs.row_filter.keep.Goals as goal
 
 pub loop-at-init : goal.loop-at-init

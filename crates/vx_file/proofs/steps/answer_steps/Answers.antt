@@ -1,4 +1,4 @@
-use Rattle.std.proofs.Common.{◌∙◌, refl, arith}
+use Rattle.std.proofs.Common.{◌∙◌, [], refl, arith}
 use Rattle.vx_base.specs.Caches.{same_cache, same_cache-then}
 use Rattle.vx_base.specs.Readers.{same_reader, same_reader-then}
 use Rattle.vx_file.specs.declared.step.Step.TheVariants.{Register}
@@ -10,7 +10,7 @@ loop-step-init g c =
     let state = g.R.Reader.state in
     let cache = g.C.SegmentCache.state in
     record {
-      answering = λ w st. rw c.new-replies.ensures (answering-starts w c.args.script.now c.args.session.now (state c.args.reader.now) (cache c.args.cache.now) st);
+      answering = λ w st. rw c.in_ok-replies.ensures (answering-starts w c.args.script.now c.args.session.now (state c.args.reader.now) (cache c.args.cache.now) st);
       steady = λ w file never told st inside. refl;
       settings = refl;
       room = omega arith;
@@ -46,8 +46,15 @@ returns-clause-answered g c = λ w st.
     answering-done w c.args.script.now c.args.session.now c.loop-step.step-index (state c.args.reader.now) (state c.loop-step.reader) (cache c.args.cache.now) (cache c.loop-step.cache) c.loop-step.replies c.loop-step.session (omega arith)
     (c.loop-step.invariant.answering w st)
 
+pub returns-in_err-replies-clause-stopped : goal.returns-in_err-replies-clause-stopped
+returns-in_err-replies-clause-stopped g c = on-err c.from_residual.result _ (λ w st.
+    let reader = g.R.Reader.state c.args.reader.now in
+    let cache = g.C.SegmentCache.state c.args.cache.now in
+    let started = answering-starts w c.args.script.now c.args.session.now reader cache st in
+    answering-stops w c.args.script.now c.args.session.now _ reader reader reader cache cache [] c.args.session.now started (nothing-stops w started.history reader.log))
+
 pub returns-in_err-reply-clause-stopped : goal.returns-in_err-reply-clause-stopped
-returns-in_err-reply-clause-stopped g c = on-err c.from_residual.result _ (λ w st.
+returns-in_err-reply-clause-stopped g c = on-err c.from_residual-in_err-reply.result _ (λ w st.
     let state = g.R.Reader.state in
     let cache = g.C.SegmentCache.state in
     let h = c.loop-step.invariant.answering w st in

@@ -1,6 +1,6 @@
 use Rattle.std.proofs.Common.{ap, ◌∙◌}
 use Rattle.std.specs.Str.{bytes_eq}
-use Rattle.lru.specs.LruCache.{LruCache, promoted}
+use Rattle.lru.specs.LruCache.{promoted}
 use Rattle.vx_file.proofs.NamedLemmas.{seen, promoted-seen}
 use Rattle.vx_file.proofs.named_footers.NamedFooters.promote.Goals as goal
 

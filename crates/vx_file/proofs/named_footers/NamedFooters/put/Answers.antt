@@ -1,4 +1,4 @@
-use Rattle.std.proofs.Common.{◌∷◌, ap, sym, subst, ◌<◌, ◌^◌, ◌∙◌}
+use Rattle.std.proofs.Common.{◌∷◌, ap, subst, ◌<◌, ◌^◌, ◌∙◌}
 use Rattle.std.specs.Str.{bytes_eq}
 use Rattle.std.specs.Map.{lookup, remove_entry}
 use Rattle.vx_file.proofs.NamedLemmas.{seen, lookup-seen, put-seen}
