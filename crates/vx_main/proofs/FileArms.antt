@@ -1,15 +1,17 @@
 -- The file of rows: what writing it answers and leaves.
 use Rattle.std.proofs.Common.{◌≡◌, ℕ, ◌+◌, ◌<◌, ◌^◌, List, [], ◌∷◌, ◌++◌, Option, Some, None, Result, Ok, Err, refl, sym, ap, subst, arith, inl, inr, ◌⊎◌}
-use Rattle.std.specs.Prelude.{IsOk}
+use Rattle.std.specs.Prelude.{IsOk, IfOk}
 use Rattle.vx_base.specs.Checks.{◌>>=◌}
 use Rattle.vx_base.specs.Streams.{SinkState, Took, TookPrefix}
 use Rattle.vx_base.proofs.TakingLemmas.{took-first}
 use Rattle.std.proofs.lemmas.List.{append-nil}
 use Rattle.vx_data.specs.Dtype.{Dtype}
+use Rattle.vx_footer.specs.ReadAgain.{content_read}
 use Rattle.vx_footer.specs.Serializing.{Parts}
 use Rattle.vx_footer.specs.declared.write_error.WriteError.{WriteError}
 use Rattle.vx_footer.specs.declared.write_error.WriteError.TheVariants as write_error
 use Rattle.vx_rows.specs.Rows.{Rows, rows_len}
+use Rattle.vx_write.specs.OpensAgain.{OpensAgain}
 use Rattle.vx_write.specs.Options.{Options}
 use Rattle.vx_write.specs.RowsWritten.{Then, RowsAnswer, ChunksAnswer, RowsLeave, CutShort, pushes}
 use Rattle.vx_write.specs.Taken.{Checked, SinkCause}
@@ -77,24 +79,24 @@ module _ (f : RowsFile) (before now : SinkState) (t : IsTable f.table.dtype f.ta
   refused e h a b = refused-file e checks (file-checked {A = WriteSummary} o f.table.dtype f.table.rows (Err e) t h a b)
 
   pub writes-file : (result : Result WriteSummary WriteError) → RowsAnswer o f.table.dtype (f.table.rows ∷ []) result → RowsLeave o f.table.dtype (f.table.rows ∷ []) before now result
-      → SinkCause before now result → WritesFile f before now (told result)
-  writes-file (Ok summary) h l c = (l.took, l.flushed, whole-file checks (file-checked o f.table.dtype f.table.rows (Ok summary) t h))
-  writes-file (Err write_error.WriteFault) h l c = (file-prefix o f.table.dtype f.table.rows before now l, c.fault refl)
-  writes-file (Err write_error.OutOfMemory) h l c = file-prefix o f.table.dtype f.table.rows before now l
-  writes-file (Err write_error.TooManyMetadata) h l c = (file-prefix o f.table.dtype f.table.rows before now l, refused write_error.TooManyMetadata h (λ k. cc) (λ k. cc))
-  writes-file (Err write_error.EmptyKey) h l c = (file-prefix o f.table.dtype f.table.rows before now l, refused write_error.EmptyKey h (λ k. cc) (λ k. cc))
-  writes-file (Err write_error.LongKey) h l c = (file-prefix o f.table.dtype f.table.rows before now l, refused write_error.LongKey h (λ k. cc) (λ k. cc))
-  writes-file (Err write_error.NotPermitted) h l c = (file-prefix o f.table.dtype f.table.rows before now l, refused write_error.NotPermitted h (λ k. cc) (λ k. cc))
-  writes-file (Err write_error.TooDeep) h l c = (file-prefix o f.table.dtype f.table.rows before now l, refused write_error.TooDeep h (λ k. cc) (λ k. cc))
-  writes-file (Err write_error.TooManyTables) h l c = (file-prefix o f.table.dtype f.table.rows before now l, refused write_error.TooManyTables h (λ k. cc) (λ k. cc))
-  writes-file (Err write_error.ChunkDType) h l c = (file-prefix o f.table.dtype f.table.rows before now l, refused write_error.ChunkDType h (λ k. cc) (λ k. cc))
-  writes-file (Err write_error.RowsOverflow) h l c = (file-prefix o f.table.dtype f.table.rows before now l, refused write_error.RowsOverflow h (λ k. cc) (λ k. cc))
-  writes-file (Err write_error.ChunkFault) h l c = (file-prefix o f.table.dtype f.table.rows before now l, refused write_error.ChunkFault h (λ k. cc) (λ k. cc))
-  writes-file (Err write_error.SegmentTooLong) h l c = (file-prefix o f.table.dtype f.table.rows before now l, refused write_error.SegmentTooLong h (λ k. cc) (λ k. cc))
-  writes-file (Err write_error.TooManySegments) h l c = (file-prefix o f.table.dtype f.table.rows before now l, refused write_error.TooManySegments h (λ k. cc) (λ k. cc))
-  writes-file (Err write_error.OffsetOverflow) h l c = (file-prefix o f.table.dtype f.table.rows before now l, refused write_error.OffsetOverflow h (λ k. cc) (λ k. cc))
-  writes-file (Err write_error.WriterFailed) h l c = (file-prefix o f.table.dtype f.table.rows before now l, refused write_error.WriterFailed h (λ k. cc) (λ k. cc))
-  writes-file (Err write_error.DuplicateKey) h l c = (file-prefix o f.table.dtype f.table.rows before now l, refused write_error.DuplicateKey h (λ k. cc) (λ k. cc))
+      → SinkCause before now result → IfOk result (λ s. OpensAgain o f.table.dtype (f.table.rows ∷ []) (content_read s.footer.content)) → WritesFile f before now (told result)
+  writes-file (Ok summary) h l c p = (l.took, l.flushed, whole-file checks (file-checked o f.table.dtype f.table.rows (Ok summary) t h), (content_read summary.footer.content, p))
+  writes-file (Err write_error.WriteFault) h l c p = (file-prefix o f.table.dtype f.table.rows before now l, c.fault refl)
+  writes-file (Err write_error.OutOfMemory) h l c p = file-prefix o f.table.dtype f.table.rows before now l
+  writes-file (Err write_error.TooManyMetadata) h l c p = (file-prefix o f.table.dtype f.table.rows before now l, refused write_error.TooManyMetadata h (λ k. cc) (λ k. cc))
+  writes-file (Err write_error.EmptyKey) h l c p = (file-prefix o f.table.dtype f.table.rows before now l, refused write_error.EmptyKey h (λ k. cc) (λ k. cc))
+  writes-file (Err write_error.LongKey) h l c p = (file-prefix o f.table.dtype f.table.rows before now l, refused write_error.LongKey h (λ k. cc) (λ k. cc))
+  writes-file (Err write_error.NotPermitted) h l c p = (file-prefix o f.table.dtype f.table.rows before now l, refused write_error.NotPermitted h (λ k. cc) (λ k. cc))
+  writes-file (Err write_error.TooDeep) h l c p = (file-prefix o f.table.dtype f.table.rows before now l, refused write_error.TooDeep h (λ k. cc) (λ k. cc))
+  writes-file (Err write_error.TooManyTables) h l c p = (file-prefix o f.table.dtype f.table.rows before now l, refused write_error.TooManyTables h (λ k. cc) (λ k. cc))
+  writes-file (Err write_error.ChunkDType) h l c p = (file-prefix o f.table.dtype f.table.rows before now l, refused write_error.ChunkDType h (λ k. cc) (λ k. cc))
+  writes-file (Err write_error.RowsOverflow) h l c p = (file-prefix o f.table.dtype f.table.rows before now l, refused write_error.RowsOverflow h (λ k. cc) (λ k. cc))
+  writes-file (Err write_error.ChunkFault) h l c p = (file-prefix o f.table.dtype f.table.rows before now l, refused write_error.ChunkFault h (λ k. cc) (λ k. cc))
+  writes-file (Err write_error.SegmentTooLong) h l c p = (file-prefix o f.table.dtype f.table.rows before now l, refused write_error.SegmentTooLong h (λ k. cc) (λ k. cc))
+  writes-file (Err write_error.TooManySegments) h l c p = (file-prefix o f.table.dtype f.table.rows before now l, refused write_error.TooManySegments h (λ k. cc) (λ k. cc))
+  writes-file (Err write_error.OffsetOverflow) h l c p = (file-prefix o f.table.dtype f.table.rows before now l, refused write_error.OffsetOverflow h (λ k. cc) (λ k. cc))
+  writes-file (Err write_error.WriterFailed) h l c p = (file-prefix o f.table.dtype f.table.rows before now l, refused write_error.WriterFailed h (λ k. cc) (λ k. cc))
+  writes-file (Err write_error.DuplicateKey) h l c p = (file-prefix o f.table.dtype f.table.rows before now l, refused write_error.DuplicateKey h (λ k. cc) (λ k. cc))
 
 -- what is so of options, a type and chunks is so of those that are the same
 pub carried : (P : Options → Dtype → List Rows → Type 0) (o p : Options) (d e : Dtype) (cs ds : List Rows) → o ≡ p → d ≡ e → cs ≡ ds → P o d cs → P p e ds

@@ -20,3 +20,4 @@ pub mod TableArms
 pub mod TableLemmas
 pub mod TextLemmas
 pub mod Unopened
+mod QuotedLemmas

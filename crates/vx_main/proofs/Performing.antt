@@ -10,7 +10,7 @@ use Rattle.vx_main.specs.declared.failure.Failure.{Failure}
 use Rattle.vx_main.specs.declared.failure.Failure.TheVariants as failures
 use Rattle.vx_main.specs.Command.{Parses, writes_file}
 use Rattle.vx_main.specs.Failures.{LeavesFiles}
-use Rattle.vx_main.specs.Outputs.{IsAnswer, is_text, text_of, unwritten, refusal_status}
+use Rattle.vx_main.specs.Outputs.{IsAnswer, Opens, is_text, text_of, unwritten, refusal_status}
 use Rattle.vx_main.specs.Outside.{Outside, Keeps, KeepSteady, outside}
 use Rattle.vx_main.specs.Runs.{Gathers, Given, Performs, Shows, shown_of}
 use Rattle.vx_main.specs.Text.{Writes}
@@ -95,9 +95,19 @@ not-file (answers.Pruned skipped) text = refl
 not-file (answers.Rows rows) text = refl
 not-file (answers.File f) text = absurd cc
 
+-- no text is a file that opens
+pub opens-text : (a : Answer) → is_text a ≡ true → Opens a
+opens-text answers.Help text = tt
+opens-text answers.Version text = tt
+opens-text (answers.Served served) text = tt
+opens-text (answers.Sizes sizes) text = tt
+opens-text (answers.Pruned skipped) text = tt
+opens-text (answers.Rows rows) text = tt
+opens-text (answers.File f) text = absurd cc
+
 -- what printing a text leaves is what writing it does
 pub shown-text : (a : Answer) (before now : SinkState) (written : Result (Unit {0}) SinkError) → is_text a ≡ true → Writes (text_of a) before now written → Shows a before now (shown_of written)
-shown-text a before now (Ok u) text w = (w.written.took, w.flushed, not-file a text)
+shown-text a before now (Ok u) text w = (w.written.took, w.flushed, not-file a text, opens-text a text)
 shown-text a before now (Err sink_error.Failed) text w = (w.written.prefix, w.written.refused.failed refl)
 shown-text a before now (Err sink_error.OutOfMemory) text w = (w.written.prefix, λ plain. w.written.refused.memory refl)
 
@@ -112,7 +122,7 @@ module _ (c : Command) (source source_now : SourceState) (files files_now : Open
   given = record { is = again c source source_now files files_now out out out_now answer (h.each out).is; deserved = (h.each out).deserved }
 
   shown : (result : Result (Unit {0}) Failure) → Shows answer out out_now result → Performs (Some c) before now result
-  shown (Ok u) w = record { answer = answer; given = given; whole = w.2; took = w.0; flushed = w.1 }
+  shown (Ok u) w = record { answer = answer; given = given; whole = w.2; opens = w.3; took = w.0; flushed = w.1 }
   shown (Err failures.Usage) w = absurd w
   shown (Err (failures.Line line)) w = absurd w
   shown (Err (failures.Refused refusal)) w = absurd w

@@ -228,14 +228,18 @@ Parses o (Err _) = ⊥
 abbrev pub serve_hints : serve.Serve → Hints
 serve_hints s = record { size = s.size; initial = s.initial; dtype = s.dtype; footer = None; metadata = s.metadata }
 
+-- nothing but the type of the rows, where that is known
+abbrev pub typed_hints : Option Dtype → Hints
+typed_hints dtype = record { size = None; initial = 0; dtype = dtype; footer = None; metadata = false }
+
 abbrev pub sizes_hints : sizes.Sizes → Hints
-sizes_hints s = record { size = None; initial = 0; dtype = s.dtype; footer = None; metadata = false }
+sizes_hints s = typed_hints s.dtype
 
 abbrev pub prune_hints : prune.Prune → Hints
-prune_hints p = record { size = None; initial = 0; dtype = p.dtype; footer = None; metadata = false }
+prune_hints p = typed_hints p.dtype
 
 abbrev pub scan_hints : scan.Scan → Hints
-scan_hints s = record { size = None; initial = 0; dtype = s.dtype; footer = None; metadata = false }
+scan_hints s = typed_hints s.dtype
 
 -- what it is told of the file that it opens
 abbrev pub hints_of : Command → Hints

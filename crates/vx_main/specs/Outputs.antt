@@ -32,7 +32,7 @@ use Rattle.vx_main.specs.Render.{render_text}
 use Rattle.vx_main.specs.Script.{script_of}
 use Rattle.vx_main.specs.Served.{ServesFile, GaveBack, GivesBack}
 use Rattle.vx_main.specs.SizesText.{sizes_text}
-use Rattle.vx_main.specs.RowsFiles.{bytes_of, refusal_of}
+use Rattle.vx_main.specs.RowsFiles.{bytes_of, refusal_of, RowsOpen}
 use Rattle.vx_main.specs.RowsText.{rows_text}
 use Rattle.vx_main.specs.Scans.{Spells, ScansFile, spelled, opened_status}
 use Rattle.vx_main.specs.Tables.{TableValue, table_of, ReadsTable}
@@ -66,6 +66,16 @@ unwritten (answers.Sizes sizes) = None
 unwritten (answers.Pruned skipped) = None
 unwritten (answers.Rows rows) = None
 unwritten (answers.File f) = refusal_of f.arguments f.table
+
+-- a file of rows opens again, and has the rows of the input
+abbrev pub Opens : Answer → Type 0
+Opens answers.Help = Unit {0}
+Opens answers.Version = Unit {0}
+Opens (answers.Served served) = Unit {0}
+Opens (answers.Sizes sizes) = Unit {0}
+Opens (answers.Pruned skipped) = Unit {0}
+Opens (answers.Rows rows) = Unit {0}
+Opens (answers.File f) = RowsOpen f
 
 -- whether an answer is no file
 abbrev pub is_text : Answer → Bool

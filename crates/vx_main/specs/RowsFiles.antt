@@ -4,10 +4,12 @@ use Rattle.vx_base.specs.Checks.{◌>>=◌}
 use Rattle.vx_base.specs.Counts.{Rises}
 use Rattle.vx_base.specs.Streams.{SinkState, Took, TookPrefix}
 use Rattle.vx_data.specs.Dtype.{Dtype}
+use Rattle.vx_footer.specs.Footers.{FooterContent}
 use Rattle.vx_footer.specs.Serializing.{Parts}
 use Rattle.vx_footer.specs.declared.write_error.WriteError.{WriteError}
 use Rattle.vx_footer.specs.declared.write_error.WriteError.TheVariants as write_error
 use Rattle.vx_rows.specs.Rows.{Rows}
+use Rattle.vx_write.specs.OpensAgain.{OpensAgain}
 use Rattle.vx_write.specs.Options.{Options}
 use Rattle.vx_write.specs.declared.summary.WriteSummary.{WriteSummary}
 use Rattle.vx_write.specs.Written.{begin_checks, push_checks, end_checks, written}
@@ -43,10 +45,14 @@ abbrev pub told : Result WriteSummary WriteError → Result (Unit {0}) Failure
 told (Ok summary) = Ok tt
 told (Err e) = Err (write_failure e)
 
+-- the file opens to a footer, where the type of the rows is supplied or was written, and its rows are those of the input
+abbrev pub RowsOpen : RowsFile → Type 0
+RowsOpen f = (footer : FooterContent) × OpensAgain (options_of f.arguments) f.table.dtype (f.table.rows ∷ []) footer
+
 -- the file was written whole and flushed, or a prefix of it was taken: a check refused it, or the sink did, or memory ran out
 abbrev pub WritesFile : RowsFile → SinkState → SinkState → Result (Unit {0}) Failure → Type 0
 WritesFile f before now (Ok _) =
-    Took (bytes_of f.arguments f.table) before.gained now.gained × (now.is_flushed ≡ true) × (refusal_of f.arguments f.table ≡ None)
+    Took (bytes_of f.arguments f.table) before.gained now.gained × (now.is_flushed ≡ true) × (refusal_of f.arguments f.table ≡ None) × RowsOpen f
 WritesFile f before now (Err (failures.Unwritten e)) =
     TookPrefix (bytes_of f.arguments f.table) before.gained now.gained × (refusal_of f.arguments f.table ≡ Some e)
 WritesFile f before now (Err failures.Output) =

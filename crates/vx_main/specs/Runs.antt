@@ -10,7 +10,7 @@ use Rattle.vx_main.specs.declared.command.Command.{Command}
 use Rattle.vx_main.specs.declared.failure.Failure.{Failure}
 use Rattle.vx_main.specs.declared.failure.Failure.TheVariants as failures
 use Rattle.vx_main.specs.Failures.{HasCause, status_of, message_of}
-use Rattle.vx_main.specs.Outputs.{IsAnswer, is_text, text_of, unwritten, refusal_status, Deserves}
+use Rattle.vx_main.specs.Outputs.{IsAnswer, Opens, is_text, text_of, unwritten, refusal_status, Deserves}
 use Rattle.vx_main.specs.Outside.{Outside}
 
 -- ---- the answer of a command
@@ -40,18 +40,19 @@ shown_of (Err sink_error.OutOfMemory) = Err failures.OutOfMemory
 -- The text of an answer was written whole and flushed, or a prefix of it was taken: the sink refused the rest, memory ran out, or
 -- a check refuses the file that it is. Only where it is a file, memory may have run out beside the sink.
 abbrev pub Shows : Answer → SinkState → SinkState → Result (Unit {0}) Failure → Type 0
-Shows answer before now (Ok _) = Took (text_of answer) before.gained now.gained × (now.is_flushed ≡ true) × (unwritten answer ≡ None)
+Shows answer before now (Ok _) = Took (text_of answer) before.gained now.gained × (now.is_flushed ≡ true) × (unwritten answer ≡ None) × Opens answer
 Shows answer before now (Err (failures.Unwritten e)) = TookPrefix (text_of answer) before.gained now.gained × (unwritten answer ≡ Some e)
 Shows answer before now (Err failures.Output) = TookPrefix (text_of answer) before.gained now.gained × Rises 1 before.faults now.faults
 Shows answer before now (Err failures.OutOfMemory) =
     TookPrefix (text_of answer) before.gained now.gained × (is_text answer ≡ true → Rises 1 before.memory_faults now.memory_faults)
 Shows answer before now (Err _) = ⊥
 
--- the text of the command's answer was written whole and flushed
+-- the text of the command's answer was written whole and flushed; where it is a file of rows, that opens again and has the rows
 pub record Prints (c : Command) (before now : Outside) : Type 0 where
   pub answer : Answer
   pub given : Given c before now answer
   pub whole : unwritten answer ≡ None
+  pub opens : Opens answer
   pub took : Took (text_of answer) before.out.gained now.out.gained
   pub flushed : now.out.is_flushed ≡ true
 

@@ -3,12 +3,13 @@ ghost use Rattle.std.specs.Prelude.{◌≡◌, None, map, string_bytes, IfOk};
 ghost use Rattle.std.specs.Option.{option_map};
 ghost use Rattle.vx_data.specs.Dtype.{dtype_view};
 ghost use Rattle.vx_data.specs.TextsRead.{dtype_of_text};
-ghost use Rattle.vx_main.specs.Command.{optional_dtype, Parses};
+ghost use Rattle.vx_main.specs.Command.{optional_dtype, typed_hints, Parses};
 
 use crate::failure::Failure;
 use std::alloc::{AllocError, Global};
 use std::marker::Model;
-use vx_data::{DType, TextError};
+use vx_data::{DType, TextError, VortexSession};
+use vx_file::ServeOptions;
 
 /// The type of the rows, where it is given.
 #[derive(Drop)]
@@ -72,5 +73,13 @@ impl RowType {
             Some(dtype) => Ok(Some(dtype.share(alloc)?)),
             None => Ok(None),
         }
+    }
+
+    /// How a file is opened of which nothing but the type is known.
+    pub(crate) fn options(&self, alloc: Global) -> Result<ServeOptions, AllocError>
+        ensures { IfOk result (λ options. options ≡ typed_hints self.now) }
+    {
+        let options = ServeOptions::new(VortexSession::new(alloc)?);
+        Ok(options.with_some_dtype(self.share(alloc)?))
     }
 }

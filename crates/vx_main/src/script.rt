@@ -104,11 +104,26 @@ fn after_line(text: &[u8], end: usize) -> &[u8]
     &text[end + 1..]
 }
 
+/// How many lines a text has at most.
+fn most_lines(text: &[u8]) -> usize
+    ensures { result ≤ length text.now + 1 }
+{
+    let mut count = 1;
+    for byte in text {
+        if *byte == b'\n' {
+            count += 1;
+        }
+    }
+    count
+}
+
 /// The steps of a script, a line each. Refuses the first line that is no step.
 pub fn read(alloc: Global, text: &[u8]) -> Result<Vec<Step>, ScriptError>
     ensures { Reads result (script_of text.now) }
 {
-    let mut steps = Vec::new(alloc);
+    let Ok(mut steps) = Vec::with_capacity(alloc, most_lines(text)) else {
+        return Err(ScriptError::OutOfMemory);
+    };
     let mut rest = text;
     let mut line = 0u64;
     while !rest.is_empty() {

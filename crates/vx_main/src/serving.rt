@@ -3,15 +3,18 @@ ghost use Rattle.std.specs.Prelude.{◌≡◌, ℕ, List, Some, None, true};
 ghost use Rattle.vx_base.specs.Openers.{SameOpener};
 ghost use Rattle.vx_base.specs.Readers.{SameReader};
 ghost use Rattle.vx_file.specs.Hints.{IsSizeOf};
+ghost use Rattle.vx_main.specs.Command.{typed_hints};
 ghost use Rattle.vx_main.specs.Outside.{OpenerSteady};
 ghost use Rattle.vx_main.specs.Reading.{settings_by};
+ghost use Rattle.vx_main.specs.Sizes.{OpensFile};
 ghost use Rattle.vx_main.specs.Served.{FileCause, ReaderCause, ReaderFault};
 
 use crate::failure::Failure;
 use crate::name::Name;
 use crate::reading::Reading;
+use crate::row_type::RowType;
 use std::alloc::Global;
-use vx_base::{Opener, OpenerError, Reader, SegmentCache};
+use vx_base::{NoCache, Opener, OpenerError, Reader, SegmentCache};
 use vx_file::{ServeError, ServeOptions, Served, Step, serve};
 
 /// Serves a script by a reader, over a cache that never fails.
@@ -69,4 +72,28 @@ pub(crate) fn serve_name<'a, F: Opener, C: SegmentCache>(
     let served = serve_reader(alloc, options, cache, &mut windowed, script);
     files.take_back(alloc, name, windowed.into_inner())?;
     served
+}
+
+/// Opens the file of a name of which nothing but the type may be known: serves no step from it.
+pub(crate) fn open_name<'a, F: Opener>(
+    alloc: Global,
+    files: &mut F,
+    dtype: &RowType,
+    name: &Name<'a>,
+) -> Result<Served, Failure<'a>>
+    ensures cause { OpensFile (typed_hints dtype.now) name.now (F.state files.old) (F.state files.new) result }
+    ensures steady { OpenerSteady None name.now (F.state files.old) (F.state files.new) }
+    ensures same { SameOpener (F.state files.old) (F.state files.new) }
+{
+    let options = dtype.options(alloc)?;
+    let mut cache = NoCache;
+    serve_name(
+        alloc,
+        files,
+        options,
+        &Reading::plain(),
+        &mut cache,
+        name.as_str(),
+        &[],
+    )
 }

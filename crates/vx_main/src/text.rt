@@ -84,6 +84,21 @@ impl TextOut {
         self.pass(out, bytes);
     }
 
+    /// Adds one byte.
+    #[tactic(auto, using(crate::proofs::TextLemmas::adds_then, crate::proofs::TextLemmas::adds_nothing, crate::proofs::TextLemmas::adds_held, crate::proofs::TextLemmas::adds_later))]
+    pub(crate) fn byte<S: Sink>(&mut self, out: &mut S, byte: u8)
+        ensures { Adds (byte ∷ []) self.old (S.state out.old) self.new (S.state out.new) }
+    {
+        if self.held.try_push(byte).is_ok() {
+            return;
+        }
+        self.send(out);
+        if self.held.try_push(byte).is_ok() {
+            return;
+        }
+        self.pass(out, &[byte]);
+    }
+
     /// Adds the digits of a number.
     pub(crate) fn number<S: Sink>(&mut self, out: &mut S, number: u64)
         ensures { Adds (decimal number) self.old (S.state out.old) self.new (S.state out.new) }
@@ -96,7 +111,7 @@ impl TextOut {
     pub(crate) fn end_line<S: Sink>(&mut self, out: &mut S)
         ensures { Adds (10 ∷ []) self.old (S.state out.old) self.new (S.state out.new) }
     {
-        self.word(out, b"\n");
+        self.byte(out, b'\n');
     }
 
     /// Writes what is held, and flushes.

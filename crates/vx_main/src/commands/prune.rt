@@ -1,11 +1,9 @@
 //! `prune NAME ..`: prints whether a file can be skipped, since no row of it satisfies a predicate.
-ghost use Rattle.std.specs.Prelude.{◌≡◌, Some, map, string_bytes, IfOk};
-ghost use Rattle.vx_base.specs.Openers.{SameOpener};
+ghost use Rattle.std.specs.Prelude.{◌≡◌, Some, map, string_bytes};
 ghost use Rattle.vx_base.specs.Streams.{SourceState};
-ghost use Rattle.vx_main.specs.Command.{prune_of, prune_behind, prune_typed, typed_filter, prune_hints, Parses};
-ghost use Rattle.vx_main.specs.Outside.{Keeps, OpenerSteady};
+ghost use Rattle.vx_main.specs.Command.{prune_of, prune_behind, prune_typed, typed_filter, Parses};
+ghost use Rattle.vx_main.specs.Outside.{Keeps};
 ghost use Rattle.vx_main.specs.Runs.{Gathers};
-ghost use Rattle.vx_main.specs.Sizes.{OpensFile};
 ghost use Rattle.vx_main.specs.declared.command.Command.TheVariants as commands;
 
 use crate::answer::Answer;
@@ -13,13 +11,11 @@ use crate::command::Command;
 use crate::failure::Failure;
 use crate::filter::Filter;
 use crate::name::Name;
-use crate::reading::Reading;
 use crate::row_type::RowType;
-use crate::serving::serve_name;
-use std::alloc::{AllocError, Global};
-use vx_base::{NoCache, Opener};
-use vx_data::VortexSession;
-use vx_file::{ServeOptions, Served, can_prune};
+use crate::serving::open_name;
+use std::alloc::Global;
+use vx_base::Opener;
+use vx_file::can_prune;
 use vx_rows::BindError;
 
 /// The arguments of `prune`: the type of the rows, where it is known, and the predicate.
@@ -89,33 +85,6 @@ impl<'a> Prune<'a> {
         }
     }
 
-    /// How the file is opened.
-    fn options(&self, alloc: Global) -> Result<ServeOptions, AllocError>
-        ensures { IfOk result (λ options. options ≡ prune_hints self.now) }
-    {
-        let options = ServeOptions::new(VortexSession::new(alloc)?);
-        Ok(options.with_some_dtype(self.dtype.share(alloc)?))
-    }
-
-    /// Opens the file: serves no step from it.
-    fn open<F: Opener>(&self, alloc: Global, files: &mut F) -> Result<Served, Failure<'a>>
-        ensures cause { OpensFile (prune_hints self.now) self.now.name (F.state files.old) (F.state files.new) result }
-        ensures steady { OpenerSteady None self.now.name (F.state files.old) (F.state files.new) }
-        ensures same { SameOpener (F.state files.old) (F.state files.new) }
-    {
-        let options = self.options(alloc)?;
-        let mut cache = NoCache;
-        serve_name(
-            alloc,
-            files,
-            options,
-            &Reading::plain(),
-            &mut cache,
-            self.name.as_str(),
-            &[],
-        )
-    }
-
     /// Whether the file can be skipped.
     pub(crate) fn answer<F: Opener>(
         &self,
@@ -125,7 +94,7 @@ impl<'a> Prune<'a> {
         ensures gathers { (source : SourceState) → Gathers (commands.Prune self.now) source source (F.state files.old) (F.state files.new) result }
         ensures keeps { (source : SourceState) → Keeps (commands.Prune self.now) source source (F.state files.old) (F.state files.new) }
     {
-        let served = self.open(alloc, files)?;
+        let served = open_name(alloc, files, &self.dtype, &self.name)?;
         let filter = self.filter.predicate(alloc)?;
         match can_prune(alloc, &served.footer, filter) {
             Ok(skipped) => Ok(Answer::Pruned(skipped)),

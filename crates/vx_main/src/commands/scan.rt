@@ -22,8 +22,6 @@ use crate::row_type::RowType;
 use crate::scanning::scan_name;
 use std::alloc::{AllocError, Global};
 use vx_base::Opener;
-use vx_data::VortexSession;
-use vx_file::ServeOptions;
 use vx_rows::{Column, Predicate};
 
 /// The arguments of `scan`: the type of the rows, where it is known, and a predicate, where one is given.
@@ -126,14 +124,6 @@ impl<'a> Scan<'a> {
         }
     }
 
-    /// How the file is opened.
-    fn options(&self, alloc: Global) -> Result<ServeOptions, AllocError>
-        ensures { IfOk result (λ options. options ≡ scan_hints self.now) }
-    {
-        let options = ServeOptions::new(VortexSession::new(alloc)?);
-        Ok(options.with_some_dtype(self.dtype.share(alloc)?))
-    }
-
     /// The predicate, if one is given.
     fn predicate(&self, alloc: Global) -> Result<Option<Predicate>, AllocError>
         ensures { IfOk result (λ p. Spells self.now.filter (option_map pred_view p)) }
@@ -150,7 +140,7 @@ impl<'a> Scan<'a> {
         ensures steady { OpenerSteady None self.now.name (F.state files.old) (F.state files.new) }
         ensures same { SameOpener (F.state files.old) (F.state files.new) }
     {
-        let options = self.options(alloc)?;
+        let options = self.dtype.options(alloc)?;
         let predicate = self.predicate(alloc)?;
         scan_name(alloc, files, &options, predicate, self.name.as_str())
     }

@@ -1,13 +1,11 @@
 //! `sizes NAME ..`: prints how many bytes each field of a file takes.
-ghost use Rattle.std.specs.Prelude.{◌≡◌, Some, map, string_bytes, codes, IfOk};
+ghost use Rattle.std.specs.Prelude.{◌≡◌, Some, map, string_bytes, codes};
 ghost use Rattle.std.specs.Option.{option_map};
-ghost use Rattle.vx_base.specs.Openers.{SameOpener};
 ghost use Rattle.vx_base.specs.Streams.{SourceState};
-ghost use Rattle.vx_main.specs.Command.{sizes_of, sizes_behind, sizes_shapes, sizes_hints, Parses};
+ghost use Rattle.vx_main.specs.Command.{sizes_of, sizes_behind, sizes_shapes, Parses};
 ghost use Rattle.vx_main.specs.Options.{are_options, values_of};
-ghost use Rattle.vx_main.specs.Outside.{Keeps, OpenerSteady};
+ghost use Rattle.vx_main.specs.Outside.{Keeps};
 ghost use Rattle.vx_main.specs.Runs.{Gathers};
-ghost use Rattle.vx_main.specs.Sizes.{OpensFile};
 ghost use Rattle.vx_main.specs.declared.command.Command.TheVariants as commands;
 
 use crate::answer::Answer;
@@ -15,13 +13,10 @@ use crate::command::Command;
 use crate::failure::Failure;
 use crate::name::Name;
 use crate::options::{Shape, are_options, values_of};
-use crate::reading::Reading;
 use crate::row_type::RowType;
-use crate::serving::serve_name;
-use std::alloc::{AllocError, Global};
-use vx_base::{NoCache, Opener};
-use vx_data::VortexSession;
-use vx_file::{ServeOptions, Served};
+use crate::serving::open_name;
+use std::alloc::Global;
+use vx_base::Opener;
 use vx_footer::SizesError;
 
 /// The arguments of `sizes`: the type of the rows, where it is known.
@@ -82,33 +77,6 @@ impl<'a> Sizes<'a> {
         }
     }
 
-    /// How the file is opened.
-    fn options(&self, alloc: Global) -> Result<ServeOptions, AllocError>
-        ensures { IfOk result (λ options. options ≡ sizes_hints self.now) }
-    {
-        let options = ServeOptions::new(VortexSession::new(alloc)?);
-        Ok(options.with_some_dtype(self.dtype.share(alloc)?))
-    }
-
-    /// Opens the file: serves no step from it.
-    fn open<F: Opener>(&self, alloc: Global, files: &mut F) -> Result<Served, Failure<'a>>
-        ensures cause { OpensFile (sizes_hints self.now) self.now.name (F.state files.old) (F.state files.new) result }
-        ensures steady { OpenerSteady None self.now.name (F.state files.old) (F.state files.new) }
-        ensures same { SameOpener (F.state files.old) (F.state files.new) }
-    {
-        let options = self.options(alloc)?;
-        let mut cache = NoCache;
-        serve_name(
-            alloc,
-            files,
-            options,
-            &Reading::plain(),
-            &mut cache,
-            self.name.as_str(),
-            &[],
-        )
-    }
-
     /// The sizes of the fields.
     pub(crate) fn answer<F: Opener>(
         &self,
@@ -118,7 +86,7 @@ impl<'a> Sizes<'a> {
         ensures gathers { (source : SourceState) → Gathers (commands.Sizes self.now) source source (F.state files.old) (F.state files.new) result }
         ensures keeps { (source : SourceState) → Keeps (commands.Sizes self.now) source source (F.state files.old) (F.state files.new) }
     {
-        let served = self.open(alloc, files)?;
+        let served = open_name(alloc, files, &self.dtype, &self.name)?;
         match served.footer.compressed_field_sizes(alloc) {
             Ok(sizes) => Ok(Answer::Sizes(sizes)),
             Err(SizesError::MissingSegment(_)) => Err(Failure::MissingSegment),

@@ -20,9 +20,20 @@ fn put_bool<S: Sink>(value: Option<bool>, text: &mut TextOut, out: &mut S)
     ensures { Adds (optional bool_text value) text.old (S.state out.old) text.new (S.state out.new) }
 {
     match value {
-        None => text.word(out, b"~"),
+        None => text.byte(out, b'~'),
         Some(true) => text.word(out, b"true"),
         Some(false) => text.word(out, b"false"),
+    }
+}
+
+/// Adds a decimal number. Nearly all fit 64 bits, whose digits are found faster.
+fn put_number<S: Sink>(number: i128, text: &mut TextOut, out: &mut S)
+    ensures { Adds (signed_decimal number) text.old (S.state out.old) text.new (S.state out.new) }
+{
+    let mut digits = Buffer::new();
+    match i64::try_from(number) {
+        Ok(number) => text.word(out, digits.format(number).as_bytes()),
+        Err(_) => text.word(out, digits.format(number).as_bytes()),
     }
 }
 
@@ -31,11 +42,8 @@ fn put_int<S: Sink>(value: Option<i128>, text: &mut TextOut, out: &mut S)
     ensures { Adds (optional signed_decimal value) text.old (S.state out.old) text.new (S.state out.new) }
 {
     match value {
-        None => text.word(out, b"~"),
-        Some(number) => {
-            let mut digits = Buffer::new();
-            text.word(out, digits.format(number).as_bytes())
-        }
+        None => text.byte(out, b'~'),
+        Some(number) => put_number(number, text, out),
     }
 }
 
@@ -44,7 +52,7 @@ fn put_text<S: Sink>(value: Option<&str>, text: &mut TextOut, out: &mut S)
     ensures { Adds (optional quoted (option_map (λ v. v.now) value.entry)) text.old (S.state out.old) text.new (S.state out.new) }
 {
     match value {
-        None => text.word(out, b"~"),
+        None => text.byte(out, b'~'),
         Some(value) => put_quoted(value.as_bytes(), text, out),
     }
 }
@@ -66,7 +74,7 @@ fn put_comma<S: Sink>(is_first: bool, text: &mut TextOut, out: &mut S)
     if is_first {
         return;
     }
-    text.word(out, b",");
+    text.byte(out, b',');
 }
 
 /// Adds the values of fields at a row.
@@ -95,11 +103,11 @@ fn put_value<S: Sink>(column: &Column, row: usize, text: &mut TextOut, out: &mut
         Column::Text(values) => put_text(values.get(row), text, out),
         Column::Struct(rows, columns) => {
             if !is_there(rows, row) {
-                return text.word(out, b"~");
+                return text.byte(out, b'~');
             }
-            text.word(out, b"(");
+            text.byte(out, b'(');
             put_all(columns.as_slice(), row, text, out);
-            text.word(out, b")");
+            text.byte(out, b')');
         }
     }
 }

@@ -1,6 +1,6 @@
 //! Words and numbers, hex and quoted text.
 ghost use Rattle.std.specs.Prelude.{◌≡◌, ◌∷◌, [], ◌++◌, ◌<◌, ◌≤◌, length};
-ghost use Rattle.std.specs.List.{flat_map};
+ghost use Rattle.std.specs.List.{flat_map, list_all};
 ghost use Rattle.hex.specs.Hex.{encode_lower};
 ghost use Rattle.vx_data.specs.Texts.{quoted, quoted_byte, is_quote_plain, upper_hex_digit};
 ghost use Rattle.vx_main.specs.Render.{numbers_after, words, line, hex_text};
@@ -17,7 +17,7 @@ pub(crate) fn put_numbers<S: Sink>(numbers: &[u64], text: &mut TextOut, out: &mu
     ensures { Adds (numbers_after numbers.now) text.old (S.state out.old) text.new (S.state out.new) }
 {
     for number in numbers {
-        text.word(out, b" ");
+        text.byte(out, b' ');
         text.number(out, *number);
     }
 }
@@ -93,9 +93,18 @@ fn put_quoted_byte<S: Sink>(byte: u8, text: &mut TextOut, out: &mut S)
     text.word(out, &[b'%', hex_digit(byte / 16), hex_digit(byte % 16)]);
 }
 
+fn are_plain(bytes: &[u8]) -> bool
+    ensures { result ≡ list_all is_quote_plain bytes.now }
+{
+    bytes.iter().all(|byte| is_plain(*byte))
+}
+
 fn put_quoted_bytes<S: Sink>(bytes: &[u8], text: &mut TextOut, out: &mut S)
     ensures { Adds (flat_map quoted_byte bytes.now) text.old (S.state out.old) text.new (S.state out.new) }
 {
+    if are_plain(bytes) {
+        return text.word(out, bytes);
+    }
     for byte in bytes {
         put_quoted_byte(*byte, text, out);
     }

@@ -3,9 +3,9 @@ use Rattle.vx_main.specs.Script.{step_of, line_length, script_of}
 use Rattle.vx_main.proofs.Lines.{script-refused, script-longer}
 use Rattle.vx_main.proofs.script.read.Goals as goal
 
-pub returns-in_default : goal.returns-in_default
-returns-in_default c =
-    let none : step_of (take (line_length c.loop-rest.rest.now) c.loop-rest.rest.now) ≡ None = rw (← c.line_end-end.ensures.length) (sym c.step.ensures ∙ c.in_default.is) in
+pub returns-in_default-step : goal.returns-in_default-step
+returns-in_default-step c =
+    let none : step_of (take (line_length c.loop-rest.rest.now) c.loop-rest.rest.now) ≡ None = rw (← c.line_end-end.ensures.length) (sym c.step.ensures ∙ c.in_default-step.is) in
     script-refused c.loop-rest.steps.items c.loop-rest.line c.loop-rest.rest.now _ (search rules) c.loop-rest.invariant.told none
 
 pub loop-rest-preserved : goal.loop-rest-preserved

@@ -1,8 +1,11 @@
 use Rattle.std.proofs.Common.{◌≡◌, ◌∷◌, [], ◌∙◌, ap, subst, sym}
+use Rattle.std.specs.Prelude.{IfOk}
 use Rattle.vx_data.specs.Dtype.{dtype_view}
 use Rattle.vx_rows.specs.Rows.{Rows}
 use Rattle.vx_write.specs.Chunks.{columns_seen}
-use Rattle.vx_write.specs.RowsWritten.{RowsAnswer, RowsLeave}
+use Rattle.vx_footer.specs.ReadAgain.{content_read}
+use Rattle.vx_write.specs.OpensAgain.{OpensAgain}
+use Rattle.vx_write.specs.RowsWritten.{pushes, RowsAnswer, RowsLeave}
 use Rattle.vx_main.specs.RowsFiles.{WritesFile}
 use Rattle.vx_main.specs.Tables.{IsTable}
 use Rattle.vx_main.specs.WriteWords.{options_of}
@@ -19,4 +22,5 @@ returns-clause-writes g c =
     let table : IsTable f.table.dtype f.table.rows = subst (IsTable f.table.dtype) c.rows.ensures.value c.rows.ensures.table in
     let answer = carried (λ o d cs. RowsAnswer o d cs c.write_rows.result) _ (options_of f.arguments) _ f.table.dtype _ (f.table.rows ∷ []) c.in_ok-options.ensures dtype seen c.write_rows.ensures.answer in
     let leaves = carried (λ o d cs. RowsLeave o d cs before now c.write_rows.result) _ (options_of f.arguments) _ f.table.dtype _ (f.table.rows ∷ []) c.in_ok-options.ensures dtype seen c.write_rows.ensures.leaves in
-    subst (WritesFile f before now) (sym c.told.ensures) (writes-file f before now table c.write_rows.result answer leaves c.write_rows.ensures.cause)
+    let opens = carried (λ o d cs. IfOk c.write_rows.result (λ s. OpensAgain o d (pushes [] cs) (content_read s.footer.content))) _ (options_of f.arguments) _ f.table.dtype _ (f.table.rows ∷ []) c.in_ok-options.ensures dtype seen c.write_rows.ensures.opens in
+    subst (WritesFile f before now) (sym c.told.ensures) (writes-file f before now table c.write_rows.result answer leaves c.write_rows.ensures.cause opens)

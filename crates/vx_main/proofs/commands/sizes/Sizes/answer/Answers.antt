@@ -6,8 +6,8 @@ pub returns-in_err-served-clause-gathers : goal.returns-in_err-served-clause-gat
 returns-in_err-served-clause-gathers g c = λ source.
     let e = c.in_err-served.field-0.0 in
     let is : c.from_residual.result ≡ Err e = search rules in
-    rw is (sizes-fails c.args.self.now source (g.F.Opener.state c.args.files.now) (g.F.Opener.state c.open.new.files) e c.in_err-served.ensures.cause)
+    rw is (sizes-fails c.args.self.now source (g.F.Opener.state c.args.files.now) (g.F.Opener.state c.open_name.new.files) e c.in_err-served.ensures.cause)
 
 pub returns-in-Ok-clause-gathers : goal.returns-in-Ok-clause-gathers
 returns-in-Ok-clause-gathers g c = λ source.
-    sizes-answers c.args.self.now source (g.F.Opener.state c.args.files.now) (g.F.Opener.state c.open.new.files) c.in_ok-served.served c.in_ok-served.ensures.cause c.in-Ok.sizes c.in-Ok.ensures
+    sizes-answers c.args.self.now source (g.F.Opener.state c.args.files.now) (g.F.Opener.state c.open_name.new.files) c.in_ok-served.served c.in_ok-served.ensures.cause c.in-Ok.sizes c.in-Ok.ensures
