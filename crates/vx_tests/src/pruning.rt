@@ -149,11 +149,34 @@ fn exact_statistics_are_lent(rt: HostRuntime) -> Result<(), Fail> {
 fn leaves(alloc: Global, words: &str, first: bool) -> Result<bool, Fail> {
     let layout = Layout::flat(alloc, struct_of(alloc, "i32")?, 2, SegmentId(0))?;
     let stats = stats_of(alloc, "i32", numbers(0, 100, 0, Precision::Exact))?;
-    let reader = FileStatsLayoutReader::new(LayoutReader::new(layout), stats);
+    let reader = FileStatsLayoutReader::new(alloc, LayoutReader::new(layout), stats)?;
     let bound = bound(alloc, words, reader.dtype())?;
     let mask = Mask::new(vec![in alloc; true, false]?);
     let left = reader.pruning_evaluation(alloc, 0..2, &bound, mask)?;
     Ok(left.len() == 2 && left.get(0) == first && !left.get(1))
+}
+
+// Whether a reader of values from 0 to 20 answers as the statistics do, for more predicates than it keeps, each twice.
+fn answers_again(alloc: Global) -> Result<bool, Fail> {
+    let layout = Layout::flat(alloc, struct_of(alloc, "i32")?, 2, SegmentId(0))?;
+    let stats = stats_of(alloc, "i32", numbers(0, 20, 0, Precision::Exact))?;
+    let reader = FileStatsLayoutReader::new(alloc, LayoutReader::new(layout), stats)?;
+    for literal in (0..40).chain(0..40) {
+        let words = format!(in alloc; "gt field col lit i32 {literal}")?;
+        let bound = bound(alloc, words.as_str(), reader.dtype())?;
+        let mask = Mask::new(vec![in alloc; true]?);
+        let left = reader.pruning_evaluation(alloc, 0..2, &bound, mask)?;
+        if left.len() != 1 || left.get(0) != (literal < 20) {
+            return Ok(false);
+        }
+    }
+    Ok(true)
+}
+
+#[test]
+fn kept_answers_are_those_of_the_statistics(rt: HostRuntime) -> Result<(), Fail> {
+    assert!(rt; answers_again(rt.alloc())?);
+    Ok(())
 }
 
 #[test]

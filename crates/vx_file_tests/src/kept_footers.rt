@@ -1,17 +1,27 @@
 //! Footers that are kept by name, with ample memory.
-use crate::footers::{file, read};
-use crate::serving::{self, FOUR};
+use crate::serving::{FOUR, file};
 use std::alloc::Global;
 use std::test::Fail;
 use vx_base::{MemReader, SegmentId};
 use vx_data::{DType, Layout, VortexSession};
 use vx_file::{CachedError, MOST_WEIGHT, MultiFileSession, open_cached};
-use vx_footer::Footer;
+use vx_footer::{DeserializeStep, Footer};
 
 // A footer whose size is not known, and which weighs ten.
 fn unknown(alloc: Global) -> Result<Footer, Fail> {
     let layout = Layout::flat(alloc, DType::Bool(false), 3, SegmentId(0))?;
     Ok(Footer::new(alloc, layout, Vec::new(alloc), None, Vec::new(alloc))?)
+}
+
+// A footer of 281 bytes.
+fn known(alloc: Global) -> Result<Option<Footer>, Fail> {
+    let buffer = file(alloc, FOUR)?;
+    let size = buffer.len() as u64;
+    let mut deserializer = Footer::deserializer(buffer, VortexSession::new(alloc)?).with_size(size);
+    match deserializer.deserialize(alloc)? {
+        DeserializeStep::Done(footer) => Ok(Some(footer)),
+        _ => Ok(None),
+    }
 }
 
 // Whether a footer is kept by a name, which goes to the front.
@@ -23,8 +33,7 @@ fn is_kept(alloc: Global, kept: &mut MultiFileSession, name: &str) -> Result<boo
 fn footers_are_kept_by_their_names(rt: HostRuntime) -> Result<(), Fail> {
     let alloc = rt.alloc();
     let mut kept = MultiFileSession::new(alloc)?;
-    let bytes = file(alloc)?;
-    let footer = read(alloc, bytes.as_slice())?.ok_or("no footer")?;
+    let footer = known(alloc)?.ok_or("no footer")?;
     // One of 281 bytes weighs one, also where it is put again.
     for name in ["a", "b", "a"] {
         kept.put_footer(alloc, name, &footer)?;
@@ -62,7 +71,7 @@ fn asked(
     key: Option<&str>,
 ) -> Result<Option<usize>, Fail> {
     let session = VortexSession::new(alloc)?;
-    let bytes = serving::file(alloc, FOUR)?;
+    let bytes = file(alloc, FOUR)?;
     let reader = MemReader::new(alloc, bytes, None, None, 8, Vec::new(alloc))?;
     match open_cached(alloc, &session, kept, key, reader, None, |options| options) {
         Ok(mut file) if file.row_count() == 4 => {

@@ -1,0 +1,89 @@
+//! Writers that chunks are pushed to, with ample memory.
+use std::alloc::Global;
+use std::test::Fail;
+use vx_base::MemSink;
+use vx_data::{DType, PType, VortexSession};
+use vx_footer::WriteError;
+use vx_rows::Column;
+use vx_write::{VortexWriteOptions, WriteStrategyBuilder};
+
+// Options by which each two rows are a segment of their own.
+fn options(alloc: Global) -> Result<VortexWriteOptions, Fail> {
+    let session = VortexSession::new(alloc)?;
+    let builder = WriteStrategyBuilder::from_session(alloc, &session)?;
+    let builder = builder.with_row_block_size(2);
+    let strategy = builder.with_data_block_target_bytes(None).build();
+    Ok(VortexWriteOptions::new(alloc, session)?.with_strategy(strategy))
+}
+
+fn numbers(alloc: Global, values: &[Option<i128>; 3]) -> Result<Column, Fail> {
+    Ok(Column::ints(alloc, PType::I32, &[values[0], values[1], values[2]], true)?)
+}
+
+#[test]
+fn a_writer_takes_chunks_of_its_type_alone(rt: HostRuntime) -> Result<(), Fail> {
+    let alloc = rt.alloc();
+    let options = options(alloc)?;
+    let tracker = options.buffered_bytes_tracker()?;
+    let out = MemSink::new(alloc, Vec::new(alloc));
+    let dtype = DType::Int(PType::I32, true);
+    let mut writer = options.writer(alloc, out, dtype)?;
+    let chunk = numbers(alloc, &[Some(1), None, Some(3)])?;
+    writer.push(alloc, &chunk)?;
+    // The magic, four zeros, and the array of two rows; the third row is held back.
+    assert_eq!(rt; writer.bytes_written(), 20);
+    assert_eq!(rt; writer.buffered_bytes(), 5);
+    assert_eq!(rt; tracker.get(), 5);
+    let (out, finished) = writer.finish(alloc);
+    let summary = finished?;
+    assert_eq!(rt; summary.row_count(), 3);
+    assert_eq!(rt; summary.size(), out.into_bytes().len() as u64);
+    Ok(())
+}
+
+#[test]
+fn a_refused_chunk_before_the_first_byte_changes_nothing(rt: HostRuntime) -> Result<(), Fail> {
+    let alloc = rt.alloc();
+    let out = MemSink::new(alloc, Vec::new(alloc));
+    let mut writer = options(alloc)?.writer(alloc, out, DType::Int(PType::I32, true))?;
+    let other = Column::ints(alloc, PType::I64, &[Some(1)], true)?;
+    assert_eq!(rt;
+        writer.push(alloc, &other).err(),
+        Some(WriteError::ChunkDType)
+    );
+    writer.push(alloc, &numbers(alloc, &[Some(1), None, Some(3)])?)?;
+    // From the first byte on a refusal leaves the writer broken.
+    assert_eq!(rt;
+        writer.push(alloc, &other).err(),
+        Some(WriteError::ChunkDType)
+    );
+    let (out, finished) = writer.finish(alloc);
+    assert!(rt; matches!(finished, Err(WriteError::WriterFailed)));
+    assert_eq!(rt; out.into_bytes().len(), 20);
+    Ok(())
+}
+
+#[test]
+fn a_writer_whose_sink_failed_goes_on_no_more(rt: HostRuntime) -> Result<(), Fail> {
+    let alloc = rt.alloc();
+    let out = MemSink::new(alloc, vec![in alloc; 1]?);
+    let dtype = DType::Int(PType::I32, true);
+    let mut writer = options(alloc)?.blocking().writer(alloc, out, dtype)?;
+    let chunk = numbers(alloc, &[Some(1), None, Some(3)])?;
+    assert_eq!(rt;
+        writer.push(alloc, &chunk).err(),
+        Some(WriteError::WriteFault)
+    );
+    assert_eq!(rt;
+        writer.push(alloc, &chunk).err(),
+        Some(WriteError::WriterFailed)
+    );
+    let (out, finished) = writer.finish(alloc);
+    assert!(rt; matches!(finished, Err(WriteError::WriterFailed)));
+    let bytes = out.into_bytes();
+    assert_eq!(rt;
+        b"VTXF\0\0\0\0".get(..bytes.len()).ok_or("longer")?,
+        bytes.as_slice()
+    );
+    Ok(())
+}
