@@ -1,4 +1,3 @@
-pub mod Files
 pub mod Laid
 pub mod SinkLemmas
 pub mod CutLemmas
@@ -41,3 +40,4 @@ pub mod ReadBackRows
 pub mod ReadBackLeaves
 pub mod ReadBackPushed
 mod WriterLemmas
+mod WriterStreams

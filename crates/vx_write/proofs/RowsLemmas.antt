@@ -100,7 +100,7 @@ accepted-more o d past c x h a =
 
 -- ---- pushes
 
-pushes-last : (past front : List Rows) (c : Rows) → pushes past (front ++ c ∷ []) ≡ c ∷ pushes past front
+pub pushes-last : (past front : List Rows) (c : Rows) → pushes past (front ++ c ∷ []) ≡ c ∷ pushes past front
 pushes-last past [] c = refl
 pushes-last past (x ∷ front) c = pushes-last (x ∷ past) front c
 

@@ -1,5 +1,5 @@
 -- A writer that chunks are pushed to.
-use Rattle.std.proofs.Common.{◌≡◌, List, [], ◌∷◌, Option, ℕ, Result, Ok, Err, sym, subst}
+use Rattle.std.proofs.Common.{◌≡◌, List, [], ◌∷◌, Option, ℕ, Result, Ok, Err, true, sym, subst}
 use Rattle.vx_base.specs.Streams.{SinkState}
 use Rattle.vx_data.specs.Dtype.{Dtype}
 use Rattle.vx_footer.specs.Footers.{FooterContent}
@@ -10,7 +10,7 @@ use Rattle.vx_write.specs.declared.file_writer.FileWriter.{FileWriter}
 use Rattle.vx_write.specs.declared.summary.WriteSummary.{WriteSummary}
 use Rattle.vx_write.specs.OpensAgain.{OpensAgain}
 use Rattle.vx_write.specs.Options.{Options}
-use Rattle.vx_write.specs.Standing.{Pushed, Finished}
+use Rattle.vx_write.specs.Standing.{IsSound, Pushed, Finished}
 use Rattle.vx_write.specs.Writers.{HasPushed, Pushes, Closes}
 use Rattle.vx_write.proofs.ReadBackPushed.{opens_again}
 use Rattle.vx_write.proofs.RowsLemmas.{accepted-more}
@@ -38,3 +38,14 @@ closes_by o d past start w g now (Ok s) p f = record {
   opens = subst (λ (x : FooterContent). OpensAgain o d past (content_read x)) (sym f.footer) (opens_again o d past f.parts p.told p.texts p.accepted f.checks);
 }
 closes_by o d past start w g now (Err e) p f = f
+
+-- a writer that is broken off
+pub broken_sound : (w : FileWriter) → IsSound w → IsSound (record w { failed = true })
+broken_sound w s = record {
+  fit = s.fit;
+  types = s.types;
+  stats = record { seen = s.stats.seen; is = s.stats.is; typed = s.stats.typed; even = s.stats.even };
+  leaves = s.leaves;
+  alive = λ fine. cc;
+  sums = λ fine. cc;
+}

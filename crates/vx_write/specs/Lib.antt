@@ -1,6 +1,4 @@
 pub mod ColumnSizes
-pub mod Column
-pub mod Writing
 pub mod Sinks
 pub mod Strategies
 pub mod Rules

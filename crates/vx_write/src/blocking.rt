@@ -7,7 +7,8 @@ ghost use Rattle.vx_write.specs.Leaves.{held_size};
 ghost use Rattle.vx_write.specs.Options.{Options};
 ghost use Rattle.vx_write.specs.Streamed.{Streams};
 ghost use Rattle.vx_write.specs.Taken.{SinkCause, Checked};
-ghost use Rattle.vx_write.specs.Writers.{HasPushed, Pushes, Closes};
+ghost use Rattle.vx_write.specs.ChunkSources.{SameChunks};
+ghost use Rattle.vx_write.specs.Writers.{HasPushed, Pushes, PushesStream, Closes};
 ghost use Rattle.vx_write.specs.Written.{begin_checks};
 
 use crate::chunk_source::ChunkSource;
@@ -89,6 +90,23 @@ impl<O: Sink> BlockingWriter<O> {
         ensures cause { SinkCause (O.state self.old.writer.out) (O.state self.new.writer.out) result }
     {
         self.writer.push(alloc, chunk)
+    }
+
+    /// Writes the chunks of a source, as `Writer` does.
+    pub fn push_stream<I: ChunkSource>(
+        &mut self,
+        alloc: Global,
+        chunks: &mut I,
+    ) -> Result<(), WriteError>
+        ensures pushes { (o : Options) (d : Dtype) (past : List Rows) (start : Option (List ℕ)) →
+            HasPushed o d past start self.old.writer.state (O.state self.old.writer.out).gained
+            → PushesStream o d past start (I.state chunks.old) (I.state chunks.new) self.new.writer.state (O.state self.new.writer.out).gained result }
+        ensures failed { self.old.writer.state.failed ≡ true → result ≡ Err WriterFailed }
+        ensures still { self.old.writer.state.failed ≡ true → (self.new ≡ self.old) × (chunks.new ≡ chunks.old) }
+        ensures same { SameChunks (I.state chunks.old) (I.state chunks.new) }
+        ensures cause { SinkCause (O.state self.old.writer.out) (O.state self.new.writer.out) result }
+    {
+        self.writer.push_stream(alloc, chunks)
     }
 
     /// How many bytes the sink took.

@@ -4,7 +4,6 @@
 mod blocking;
 mod buffered_bytes;
 mod chunk_source;
-mod column;
 mod column_sizes;
 mod column_stats;
 mod counted;
@@ -37,9 +36,7 @@ mod streaming;
 mod summary;
 mod tail;
 mod whole_file;
-mod write_error;
 mod writer;
-mod writing;
 
 pub use blocking::{BlockingWrite, BlockingWriter};
 pub use buffered_bytes::BufferedBytesTracker;
@@ -53,6 +50,4 @@ pub use session_ext::WriteOptionsSessionExt;
 pub use strategy::{FlatStrategy, LayoutStrategy, LeafStrategy, WriteStrategyBuilder};
 pub use summary::WriteSummary;
 pub use whole_file::write_rows;
-pub use write_error::WriteError;
 pub use writer::Writer;
-pub use writing::{Written, write};

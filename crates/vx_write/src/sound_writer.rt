@@ -1,5 +1,5 @@
 //! A writer of a file, with what each of its calls keeps.
-ghost use Rattle.std.specs.Prelude.{◌≡◌, ◌-◌, ◌^◌, [], Err, List, ℕ, Option, true, min};
+ghost use Rattle.std.specs.Prelude.{◌≡◌, ◌-◌, ◌<◌, ◌^◌, [], Err, List, ℕ, Option, true, min};
 ghost use Rattle.vx_data.specs.Dtype.{Dtype};
 ghost use Rattle.vx_footer.specs.declared.write_error.WriteError.TheVariants.{WriterFailed};
 ghost use Rattle.vx_rows.specs.Rows.{Rows, column_view};
@@ -62,6 +62,24 @@ impl SoundWriter {
         ensures cause { SinkCause (S.state out.old) (S.state out.new) result }
     {
         self.writer.push(alloc, out, chunk)
+    }
+
+    /// Whether an earlier call was refused after a byte was written.
+    pub(crate) fn is_broken(&self) -> bool
+        ensures { result ≡ self.now.failed }
+    {
+        self.writer.failed
+    }
+
+    /// Breaks the writer, where the sink took a byte of it.
+    #[tactic(auto, using(crate::proofs::WriterLemmas::broken_sound))]
+    pub(crate) fn break_off(&mut self)
+        ensures untouched { self.old.output.taken ≡ 0 → self.new ≡ self.old }
+        ensures begun { 0 < self.old.output.taken → self.new ≡ record self.old { failed = true } }
+    {
+        if self.writer.bytes_written() != 0 {
+            self.writer.failed = true;
+        }
     }
 
     /// Writes the rest, as `FileWriter` does.

@@ -6,9 +6,11 @@ ghost use Rattle.vx_rows.specs.Rows.{Rows, column_view};
 ghost use Rattle.vx_write.specs.Leaves.{held_size};
 ghost use Rattle.vx_write.specs.Options.{Options};
 ghost use Rattle.vx_write.specs.Taken.{SinkCause, Checked};
-ghost use Rattle.vx_write.specs.Writers.{HasPushed, Pushes, Closes};
+ghost use Rattle.vx_write.specs.ChunkSources.{SameChunks};
+ghost use Rattle.vx_write.specs.Writers.{HasPushed, Pushes, PushesStream, Closes};
 ghost use Rattle.vx_write.specs.Written.{begin_checks};
 
+use crate::chunk_source::{ChunkError, ChunkSource};
 use crate::field_texts::has_texts;
 use crate::file_writer::FileWriter;
 use crate::options::VortexWriteOptions;
@@ -81,6 +83,45 @@ impl<O: Sink> Writer<O> {
         let pushed = self.state.push(alloc, &mut self.out, chunk);
         self.state.note();
         pushed
+    }
+
+    /// Writes the chunks of a source, each as it comes, until none comes. Where the source fails behind some, these are
+    /// pushed, and the writer is broken if the sink took a byte. A broken writer asks the source for nothing.
+    pub fn push_stream<I: ChunkSource>(
+        &mut self,
+        alloc: Global,
+        chunks: &mut I,
+    ) -> Result<(), WriteError>
+        ensures pushes { (o : Options) (d : Dtype) (past : List Rows) (start : Option (List ℕ)) →
+            HasPushed o d past start self.old.state (O.state self.old.out).gained
+            → PushesStream o d past start (I.state chunks.old) (I.state chunks.new) self.new.state (O.state self.new.out).gained result }
+        ensures failed { self.old.state.failed ≡ true → result ≡ Err WriterFailed }
+        ensures still { self.old.state.failed ≡ true → (self.new ≡ self.old) × (chunks.new ≡ chunks.old) }
+        ensures same { SameChunks (I.state chunks.old) (I.state chunks.new) }
+        ensures cause { SinkCause (O.state self.old.out) (O.state self.new.out) result }
+    {
+        if self.state.is_broken() {
+            return Err(WriteError::WriterFailed);
+        }
+        for _ in 0..u64::MAX {
+            match chunks.next_chunk(alloc) {
+                Ok(Some(chunk)) => match self.push(alloc, &chunk) {
+                    Ok(()) => {}
+                    Err(error) => return Err(error),
+                },
+                Ok(None) => return Ok(()),
+                Err(ChunkError::Failed) => {
+                    self.state.break_off();
+                    return Err(WriteError::ChunkFault);
+                }
+                Err(ChunkError::OutOfMemory) => {
+                    self.state.break_off();
+                    return Err(WriteError::OutOfMemory);
+                }
+            }
+        }
+        self.state.break_off();
+        Err(WriteError::OutOfMemory)
     }
 
     /// How many bytes the sink took.
