@@ -3,7 +3,7 @@ _vx() {
     local word=${COMP_WORDS[COMP_CWORD]}
     COMPREPLY=()
     if [ "$COMP_CWORD" -eq 1 ]; then
-        mapfile -t COMPREPLY < <(compgen -W 'serve sizes prune scan demo write --help --version' -- "$word")
+        mapfile -t COMPREPLY < <(compgen -W 'serve sizes prune scan demo write gen --help --version' -- "$word")
     elif [ "$COMP_CWORD" -eq 2 ] && [[ ${COMP_WORDS[1]} == @(serve|sizes|prune|scan) ]]; then
         mapfile -t COMPREPLY < <(compgen -f -- "$word")
     elif [ "${COMP_WORDS[1]}" = serve ] && [[ ${COMP_WORDS[COMP_CWORD - 1]} != --* || ${COMP_WORDS[COMP_CWORD - 1]} == --meta ]]; then

@@ -7,6 +7,7 @@ use Rattle.vx_base.specs.Openers.{OpenerState, AsksFor}
 use Rattle.vx_base.specs.Streams.{SourceState, SinkState}
 use Rattle.vx_base.specs.declared.segment.SegmentId.{SegmentId}
 use Rattle.vx_footer.specs.declared.error.OpenError.{OpenError}
+use Rattle.vx_footer.specs.declared.write_error.WriteError.{WriteError}
 use Rattle.vx_footer.specs.declared.sizes_error.SizesError.TheVariants.{MissingSegment}
 use Rattle.vx_footer.specs.FieldSizes.{SizeList, SizesGiven, missing}
 use Rattle.vx_footer.specs.Footers.{FooterContent}
@@ -15,7 +16,6 @@ use Rattle.vx_source.specs.declared.reply.Reply.{Reply}
 use Rattle.vx_source.specs.declared.span.Span.{Span}
 use Rattle.vx_file.specs.declared.step.Step.{Step}
 use Rattle.vx_file.specs.declared.served.Served.{Served}
-use Rattle.vx_write.specs.Column.{written}
 use Rattle.vx_main.specs.declared.answer.Answer.TheVariants as answers
 use Rattle.vx_main.specs.declared.command.Command.{Command}
 use Rattle.vx_main.specs.declared.command.Command.TheVariants as commands
@@ -29,10 +29,10 @@ use Rattle.vx_main.specs.Command.{reads_input, serve_hints, sizes_hints}
 use Rattle.vx_file.specs.Hints.{Hints, IsSizeOf}
 use Rattle.vx_file.specs.Ranges.{tail_ranges, opened}
 use Rattle.vx_file.specs.Serving.{asked}
-use Rattle.vx_main.specs.Demo.{Demonstrates, DemoCause}
+use Rattle.vx_main.specs.Demo.{demo_refusal, Demonstrates, DemoCause}
 use Rattle.vx_main.specs.Failures.{LeavesFiles, WantsLine}
 use Rattle.vx_main.specs.Input.{ReadsScript, ScriptCause, BadLine, BadLength}
-use Rattle.vx_main.specs.Outputs.{IsTold, IsTrueSize, wanted_status, input_status, script_status, file_status, grammar_status, missing_status, sizes_status, measured_status}
+use Rattle.vx_main.specs.Outputs.{IsTold, IsTrueSize, wanted_status, input_status, script_status, file_status, grammar_status, missing_status, sizes_status, measured_status, refusal_status}
 use Rattle.vx_main.specs.Outside.{outside}
 use Rattle.vx_main.specs.Reading.{settings_by, new_cache}
 use Rattle.vx_main.specs.Runs.{Gathers}
@@ -172,30 +172,43 @@ serve-unprinted s steps source source_now files files_now served h = record { ea
 pub demo-unread : (d : demo.Demo) (source source_now : SourceState) (files : OpenerState) (failure : Failure) → ScriptCause source source_now (Err failure)
     → Gathers (commands.Demo d) source source_now files files (Err failure)
 demo-unread d source source_now files failure h =
-    script-fails (commands.Demo d) (grammar_status (vx_grammar (written d.values) None)) source source_now files failure refl (λ line h. h) (λ out. refl) (λ out told. told) refl h
+    script-fails (commands.Demo d) (refusal_status (demo_refusal d.values)) source source_now files failure refl (λ line h. h) (λ out. refl) (λ out told. told) refl h
 
-pub demo-fails : (d : demo.Demo) (steps : List Step) (source source_now : SourceState) (files : OpenerState) (failure : Failure) → DemoCause d.values steps (Err failure)
+-- the status of an input that spells a script
+demo-status : (d : demo.Demo) (steps : List Step) (source source_now : SourceState) (refusal : Option WriteError) → is_some source.rest ≡ true → ReadsScript source source_now steps → demo_refusal d.values ≡ refusal
+    → input_status source.rest (refusal_status (demo_refusal d.values)) ≡ refusal_status refusal
+demo-status d steps source source_now refusal told script is = read-status source source_now steps source.rest (refusal_status (demo_refusal d.values)) refl told script ∙ ap refusal_status is
+
+pub demo-fails : (d : demo.Demo) (steps : List Step) (source source_now : SourceState) (files : OpenerState) (failure : Failure) → ReadsScript source source_now steps → DemoCause d.values steps (Err failure)
     → Gathers (commands.Demo d) source source_now files files (Err failure)
-demo-fails d steps source source_now files failures.Usage h = absurd h
-demo-fails d steps source source_now files failures.MissingSegment h = absurd h
-demo-fails d steps source source_now files (failures.Unbound error) h = absurd h
-demo-fails d steps source source_now files (failures.Undecoded error) h = absurd h
-demo-fails d steps source source_now files (failures.Unwritten error) h = absurd h
-demo-fails d steps source source_now files (failures.Line line) h = absurd h
-demo-fails d steps source source_now files (failures.Refused refusal) h = absurd h
-demo-fails d steps source source_now files (failures.Read fault) h = absurd h
-demo-fails d steps source source_now files failures.Input h = absurd h
-demo-fails d steps source source_now files failures.Output h = absurd h
-demo-fails d steps source source_now files (failures.Open name) h = absurd h
-demo-fails d steps source source_now files failures.InputTooLong h = absurd h
-demo-fails d steps source source_now files failures.OutOfMemory h = record { each = λ out. record { files = refl; out = inl refl } }
+demo-fails d steps source source_now files failures.Usage script h = absurd h
+demo-fails d steps source source_now files failures.MissingSegment script h = absurd h
+demo-fails d steps source source_now files (failures.Unbound error) script h = absurd h
+demo-fails d steps source source_now files (failures.Undecoded error) script h = absurd h
+demo-fails d steps source source_now files (failures.Unwritten error) script h = record {
+  each = λ out. inr (record {
+    refused = h;
+    input = (steps, script);
+    files = refl;
+    out = refl;
+    deserved = λ told. demo-status d steps source source_now (Some error) told script h;
+  });
+}
+demo-fails d steps source source_now files (failures.Line line) script h = absurd h
+demo-fails d steps source source_now files (failures.Refused refusal) script h = absurd h
+demo-fails d steps source source_now files (failures.Read fault) script h = absurd h
+demo-fails d steps source source_now files failures.Input script h = absurd h
+demo-fails d steps source source_now files failures.Output script h = absurd h
+demo-fails d steps source source_now files (failures.Open name) script h = absurd h
+demo-fails d steps source source_now files failures.InputTooLong script h = absurd h
+demo-fails d steps source source_now files failures.OutOfMemory script h = record { each = λ out. record { files = refl; out = inl refl } }
 
 pub demo-answers : (d : demo.Demo) (steps : List Step) (source source_now : SourceState) (files : OpenerState) (served : Served) → ReadsScript source source_now steps
     → Demonstrates d.values steps served → Gathers (commands.Demo d) source source_now files files (Ok (answers.Served served))
 demo-answers d steps source source_now files served script h = record {
   each = λ out. record {
     is = record { served = served; is = refl; steps = steps; script = script; demonstrates = h; files = refl };
-    deserved = λ told. read-status source source_now steps source.rest (grammar_status (vx_grammar (written d.values) None)) refl told script ∙ ap grammar_status h.holds.grammar;
+    deserved = λ told. demo-status d steps source source_now None told script h.whole;
   };
 }
 

@@ -41,11 +41,11 @@ file-checked o d c answer t h =
     then-checked answer (begin_checks o d) (push_checks o d [] c >>= λ _. end_checks o d (c ∷ [])) (ChunksAnswer o d [] (c ∷ []) answer)
     (λ k. then-checked answer (push_checks o d [] c) (end_checks o d (c ∷ [])) (ChunksAnswer o d (c ∷ []) [] answer) (λ l. l) (k.2 (is_chunk d c t) (subst (λ n. n < 2 ^ 64) (from-zero (rows_len c)) t.few))) h
 
-whole-file : (checks : Result Parts WriteError) → IsOk checks → refusal_in checks ≡ None
+pub whole-file : (checks : Result Parts WriteError) → IsOk checks → refusal_in checks ≡ None
 whole-file (Ok parts) h = refl
 whole-file (Err e) h = absurd cc
 
-refused-file : (e : WriteError) (checks : Result Parts WriteError) → checks ≡ Err e → refusal_in checks ≡ Some e
+pub refused-file : (e : WriteError) (checks : Result Parts WriteError) → checks ≡ Err e → refusal_in checks ≡ Some e
 refused-file e checks h = ap refusal_in h
 
 -- ---- what stands on the sink

@@ -1,10 +1,14 @@
 pub mod Arms
+pub mod DemoArms
 pub mod FileArms
 pub mod FooterText
+pub mod GeneratedLemmas
 pub mod HexLemmas
 pub mod LayoutLines
 pub mod Lines
 pub mod Lists
+pub mod MadeArms
+pub mod MadeSegments
 pub mod Openings
 pub mod MetadataLemmas
 pub mod NameScans
@@ -16,6 +20,7 @@ pub mod RowTypes
 pub mod ScanArms
 pub mod StatusRows
 pub mod Streaming
+pub mod Summing
 pub mod TableArms
 pub mod TableLemmas
 pub mod TextLemmas

@@ -1,7 +1,7 @@
 -- A list from one of its places on.
 use Rattle.std.proofs.Common.{◌≡◌, ℕ, zero, suc, ◌+◌, ◌<◌, get_or, map, List, [], ◌∷◌, ◌++◌, length, take, drop, Some, refl, sym, ap, ◌∙◌, add-one, append_assoc, arith}
 use Rattle.std.proofs.lemmas.List.{append-nil}
-use Rattle.std.specs.Prelude.{slice_get}
+use Rattle.std.specs.Prelude.{slice_get, slice_index}
 use Rattle.vx_main.specs.Render.{numbered}
 
 drop-get_suc : {A : Type 0} (xs : List A) (i : ℕ) (x : A) → slice_get xs i ≡ Some x → drop i xs ≡ x ∷ drop (suc i) xs
@@ -47,3 +47,8 @@ pub got-here : {A : Type 0} (xs : List A) (i : ℕ) (x : A) → i < length xs �
 got-here [] i x inside is = absurd (omega (arith, inside))
 got-here (y ∷ ys) zero x inside is = ap Some (sym is)
 got-here (y ∷ ys) (suc i) x inside is = got-here ys i x (omega (arith, inside)) is
+
+pub got-index : (xs : List ℕ) (i : ℕ) → i < length xs → slice_get xs i ≡ Some (slice_index xs i)
+got-index [] i inside = absurd (omega (arith, inside))
+got-index (y ∷ ys) zero inside = refl
+got-index (y ∷ ys) (suc i) inside = got-index ys i (omega (arith, inside))

@@ -26,6 +26,7 @@ leaves-same (commands.Sizes s) files = inl (record { asked = refl; returned = re
 leaves-same (commands.Prune p) files = inl (record { asked = refl; returned = refl })
 leaves-same (commands.Scan s) files = inl (record { asked = refl; returned = refl })
 leaves-same (commands.Write w) files = refl
+leaves-same (commands.Gen g) files = refl
 
 -- the words were no command, or there was no memory for it
 pub unparsed : (command : Option Command) (before : Outside) (failure : Failure) → Parses {A = Command} command (Err failure) → Performs command before before (Err failure)
@@ -61,6 +62,7 @@ leaves-of (commands.Sizes s) source source_now files files_now answer h out = in
 leaves-of (commands.Prune p) source source_now files files_now answer h out = inr (record { asked = (h.each out).is.asked; back = inl (h.each out).is.back })
 leaves-of (commands.Scan s) source source_now files files_now answer h out = inr (record { asked = (h.each out).is.asked; back = inl (h.each out).is.back })
 leaves-of (commands.Write w) source source_now files files_now answer h out = (h.each out).is.files
+leaves-of (commands.Gen g) source source_now files files_now answer h out = (h.each out).is.files
 
 -- what is answered does not depend on the output
 again : (c : Command) (source source_now : SourceState) (files files_now : OpenerState) (out out' now' : SinkState) (answer : Answer) → IsAnswer c (outside source files out) (outside source_now files_now out') answer
@@ -73,6 +75,7 @@ again (commands.Sizes s) source source_now files files_now out out' now' answer 
 again (commands.Prune p) source source_now files files_now out out' now' answer h = record { skipped = h.skipped; is = h.is; source = h.source; asked = h.asked; back = h.back; judges = h.judges }
 again (commands.Scan s) source source_now files files_now out out' now' answer h = record { rows = h.rows; is = h.is; source = h.source; asked = h.asked; back = h.back; predicate = h.predicate; spells = h.spells; scans = h.scans }
 again (commands.Write w) source source_now files files_now out out' now' answer h = record { table = h.table; is = h.is; reads = h.reads; files = h.files }
+again (commands.Gen g) source source_now files files_now out out' now' answer h = record { summary = h.summary; is = h.is; sums = h.sums; source = h.source; files = h.files }
 
 -- only a file has memory run out beside the output
 is-text : (c : Command) (before now : Outside) (answer : Answer) → IsAnswer c before now answer → writes_file c ≡ false → is_text answer ≡ true
@@ -84,6 +87,7 @@ is-text (commands.Sizes s) before now answer h plain = ap is_text h.is
 is-text (commands.Prune p) before now answer h plain = ap is_text h.is
 is-text (commands.Scan s) before now answer h plain = ap is_text h.is
 is-text (commands.Write w) before now answer h plain = absurd cc
+is-text (commands.Gen g) before now answer h plain = ap is_text h.is
 
 -- no text is a file
 pub not-file : (a : Answer) → is_text a ≡ true → unwritten a ≡ None
@@ -93,6 +97,7 @@ not-file (answers.Served served) text = refl
 not-file (answers.Sizes sizes) text = refl
 not-file (answers.Pruned skipped) text = refl
 not-file (answers.Rows rows) text = refl
+not-file (answers.Summary summary) text = refl
 not-file (answers.File f) text = absurd cc
 
 -- no text is a file that opens
@@ -103,6 +108,7 @@ opens-text (answers.Served served) text = tt
 opens-text (answers.Sizes sizes) text = tt
 opens-text (answers.Pruned skipped) text = tt
 opens-text (answers.Rows rows) text = tt
+opens-text (answers.Summary summary) text = tt
 opens-text (answers.File f) text = absurd cc
 
 -- what printing a text leaves is what writing it does
@@ -129,13 +135,13 @@ module _ (c : Command) (source source_now : SourceState) (files files_now : Open
   shown (Err failures.MissingSegment) w = absurd w
   shown (Err (failures.Unbound error)) w = absurd w
   shown (Err (failures.Undecoded error)) w = absurd w
-  shown (Err (failures.Unwritten error)) w = record {
+  shown (Err (failures.Unwritten error)) w = inl (record {
     answer = answer;
     is = given.is;
     refused = w.1;
     took = w.0;
     deserved = λ told. given.deserved told ∙ ap refusal_status w.1;
-  }
+  })
   shown (Err (failures.Read fault)) w = absurd w
   shown (Err failures.Input) w = absurd w
   shown (Err failures.Output) w = record { answer = answer; is = given.is; took = w.0; rose = w.1 }

@@ -28,7 +28,8 @@ row c before now err err_now (failures.Refused refusal) h r = record { means = i
 row c before now err err_now failures.MissingSegment h r = record { means = inr (inl (record { cause = h; reported = r })); complete = λ well. inl (sym (h.deserved well.told)); no_usage = λ e. cc }
 row c before now err err_now (failures.Unbound error) h r = record { means = inr (inr (inl (error, record { cause = h; reported = r }))); complete = λ well. inl (sym (h.deserved well.told)); no_usage = λ e. cc }
 row c before now err err_now (failures.Undecoded error) h r = record { means = inr (inr (inr (inl (error, record { cause = h; reported = r })))); complete = λ well. inl (sym (h.deserved well.told)); no_usage = λ e. cc }
-row c before now err err_now (failures.Unwritten error) h r = record { means = inr (inr (inr (inr (error, record { cause = h; reported = r })))); complete = λ well. inl (sym (h.deserved well.told)); no_usage = λ e. cc }
+row c before now err err_now (failures.Unwritten error) (inl h) r = record { means = inr (inr (inr (inr (error, record { cause = inl h; reported = r })))); complete = λ well. inl (sym (h.deserved well.told)); no_usage = λ e. cc }
+row c before now err err_now (failures.Unwritten error) (inr h) r = record { means = inr (inr (inr (inr (error, record { cause = inr h; reported = r })))); complete = λ well. inl (sym (h.deserved well.told)); no_usage = λ e. cc }
 row c before now err err_now (failures.Read fault) h r = record { means = (fault, record { cause = h; reported = r }); complete = λ well. absurd (stood before.files.read_faults now.files.read_faults (well.files h.name h.asks.named).reads h.rose); no_usage = λ e. cc }
 row c before now err err_now failures.Input h r = record { means = record { cause = h; reported = r }; complete = λ well. absurd (stood before.source.faults now.source.faults (well.input h.reads) h.wants); no_usage = λ e. cc }
 row c before now err err_now failures.Output h r = record { means = record { cause = h; reported = r }; complete = λ well. absurd (stood before.out.faults now.out.faults well.output h.rose); no_usage = λ e. cc }

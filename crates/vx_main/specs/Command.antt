@@ -1,14 +1,15 @@
 -- What the words of the program ask for.
-use Rattle.std.specs.Prelude.{◌≡◌, ℕ, ℤ, Bool, true, false, ◌&&◌, ◌==◌, nat_lt, nat_le, if◌then◌else◌, List, [], ◌∷◌, ◌++◌, length, codes, Option, Some, None, is_some, unwrap_or, Result, Ok, Err}
+use Rattle.std.specs.Prelude.{◌≡◌, ℕ, ℤ, Bool, true, false, ◌&&◌, ◌-◌, ◌^◌, ◌==◌, nat_lt, nat_le, if◌then◌else◌, List, [], ◌∷◌, ◌++◌, length, codes, Option, Some, None, is_some, unwrap_or, Result, Ok, Err}
 use Rattle.std.specs.Option.{option_map}
 use Rattle.std.specs.Str.{bytes_eq}
 use Rattle.vx_base.specs.Readers.{ReaderSettings}
 use Rattle.vx_data.specs.Dtype.{Dtype}
 use Rattle.vx_data.specs.TextsRead.{dtype_of_text}
 use Rattle.vx_main.specs.declared.command.Command.{Command}
-use Rattle.vx_main.specs.declared.command.Command.TheVariants.{Help, Version, Serve, Demo, Sizes, Prune, Scan, Write}
+use Rattle.vx_main.specs.declared.command.Command.TheVariants.{Help, Version, Serve, Demo, Sizes, Prune, Scan, Write, Gen}
 use Rattle.vx_file.specs.Hints.{Hints, no_hints}
-use Rattle.vx_main.specs.declared.commands.demo.TheConstants.{MOST_VALUES}
+use Rattle.vx_main.specs.declared.commands.generate.Generate as generate
+use Rattle.vx_main.specs.declared.generated_bytes.TheConstants.{MOST_ROWS}
 use Rattle.vx_main.specs.declared.commands.serve.Serve as serve
 use Rattle.vx_main.specs.declared.commands.sizes.Sizes as sizes
 use Rattle.vx_main.specs.declared.commands.prune.Prune as prune
@@ -16,7 +17,7 @@ use Rattle.vx_main.specs.declared.commands.scan.Scan as scan
 use Rattle.vx_prune.specs.PredicateWords.{predicate_of}
 use Rattle.vx_main.specs.declared.failure.Failure.{Failure}
 use Rattle.vx_main.specs.declared.failure.Failure.TheVariants as failures
-use Rattle.vx_main.specs.Numbers.{value_of}
+use Rattle.vx_main.specs.Numbers.{number_of, value_of}
 use Rattle.vx_main.specs.Options.{OptionShape, once, last, are_options, values_of, optional_number}
 use Rattle.vx_main.specs.WriteWords.{WriteValue, write_shapes, metadata_of}
 use Rattle.vx_main.specs.Reading.{ReadingValue, plain_reading, reading_of, settings_by}
@@ -196,13 +197,29 @@ write_of words =
     (has_option words (codes "--no-dtype")) (has_option words (codes "--no-stats")) (has_option words (codes "--v2")))
     else None
 
--- at least one value, and at most so many
+-- at least one value
 abbrev pub demo_of : List (List ℕ) → Option Command
-demo_of words =
-    if nat_lt 0 (length words) && nat_le (length words) MOST_VALUES
-    then option_map (λ values. Demo (record { values = values })) (all_values words) else None
+demo_of words = if nat_lt 0 (length words) then option_map (λ values. Demo (record { values = values })) (all_values words) else None
 
--- `--help` and `--version` alone, `serve NAME ..`, `sizes NAME ..`, `prune NAME ..`, `scan NAME ..`, `demo V ..`, or `write ..`
+-- a number that is at most another
+abbrev pub bounded : ℕ → Option ℕ → Option ℕ
+bounded most None = None
+bounded most (Some n) = if nat_le n most then Some n else None
+
+abbrev pub generated_by : Option ℕ → Option ℕ → Option generate.Generate
+generated_by None rows = None
+generated_by (Some seed) None = None
+generated_by (Some seed) (Some rows) = Some (record { seed = seed; rows = rows })
+
+-- a seed of 32 bits, and at most so many rows
+abbrev pub gen_of : List (List ℕ) → Option Command
+gen_of [] = None
+gen_of (seed ∷ []) = None
+gen_of (seed ∷ rows ∷ []) = option_map (λ g. Gen g) (generated_by (bounded (2 ^ 32 - 1) (number_of seed)) (bounded MOST_ROWS (number_of rows)))
+gen_of (seed ∷ rows ∷ word ∷ words) = None
+
+-- `--help` and `--version` alone, `serve NAME ..`, `sizes NAME ..`, `prune NAME ..`, `scan NAME ..`, `demo V ..`, `write ..`, or
+-- `gen SEED ROWS`
 abbrev pub command_of : List (List ℕ) → Option Command
 command_of [] = None
 command_of (word ∷ words) =
@@ -212,6 +229,7 @@ command_of (word ∷ words) =
     else if bytes_eq word (codes "prune") then prune_of words
     else if bytes_eq word (codes "scan") then scan_of words
     else if bytes_eq word (codes "write") then write_of words
+    else if bytes_eq word (codes "gen") then gen_of words
     else if bytes_eq word (codes "--help") then alone Help words
     else if bytes_eq word (codes "--version") then alone Version words
     else None
@@ -251,6 +269,7 @@ hints_of (Sizes s) = sizes_hints s
 hints_of (Prune p) = prune_hints p
 hints_of (Scan s) = scan_hints s
 hints_of (Write w) = no_hints
+hints_of (Gen g) = no_hints
 
 -- the settings with which it reads, by those of the reader
 abbrev pub settings_of_command : Command → ReaderSettings → ReaderSettings
@@ -262,6 +281,7 @@ settings_of_command (Sizes s) own = settings_by plain_reading own
 settings_of_command (Prune p) own = settings_by plain_reading own
 settings_of_command (Scan s) own = own
 settings_of_command (Write w) own = own
+settings_of_command (Gen g) own = own
 
 -- the names of the files that it opens
 abbrev pub names_of : Command → List (List ℕ)
@@ -273,6 +293,7 @@ names_of (Sizes s) = s.name ∷ []
 names_of (Prune p) = p.name ∷ []
 names_of (Scan s) = s.name ∷ []
 names_of (Write w) = []
+names_of (Gen g) = []
 
 -- whether it reads its input
 abbrev pub reads_input : Command → Bool
@@ -284,6 +305,7 @@ reads_input (Sizes s) = false
 reads_input (Prune p) = false
 reads_input (Scan s) = false
 reads_input (Write w) = true
+reads_input (Gen g) = false
 
 -- whether what it writes to the output is a file, as it comes
 abbrev pub writes_file : Command → Bool
@@ -295,3 +317,4 @@ writes_file (Sizes s) = false
 writes_file (Prune p) = false
 writes_file (Scan s) = false
 writes_file (Write w) = true
+writes_file (Gen g) = false

@@ -1,5 +1,5 @@
 -- The failures of the program: each with its status, its line, and its cause.
-use Rattle.std.specs.Prelude.{◌≡◌, ℕ, Bool, true, false, List, [], ◌∷◌, ◌++◌, codes, decimal, Some, Ok, Err, ◌⊎◌}
+use Rattle.std.specs.Prelude.{◌≡◌, ℕ, Bool, true, false, List, [], ◌∷◌, ◌++◌, codes, decimal, Option, Some, None, Ok, Err, ◌⊎◌}
 use Rattle.vx_base.specs.Counts.{Rises}
 use Rattle.vx_base.specs.Openers.{OpenerState, AsksFor}
 use Rattle.vx_base.specs.Streams.{SourceState, TookPrefix}
@@ -20,7 +20,7 @@ use Rattle.vx_sched.specs.declared.fault.Place.TheVariants.{Size, Range}
 use Rattle.vx_file.specs.declared.step.Step.{Step}
 use Rattle.vx_main.specs.declared.answer.Answer.{Answer}
 use Rattle.vx_main.specs.declared.command.Command.{Command}
-use Rattle.vx_main.specs.declared.command.Command.TheVariants.{Help, Version, Serve, Demo, Sizes, Prune, Scan, Write}
+use Rattle.vx_main.specs.declared.command.Command.TheVariants.{Help, Version, Serve, Demo, Sizes, Prune, Scan, Write, Gen}
 use Rattle.vx_main.specs.declared.failure.Failure.{Failure}
 use Rattle.vx_main.specs.declared.failure.Failure.TheVariants as failures
 use Rattle.vx_file.specs.Hints.{IsSizeOf}
@@ -28,6 +28,8 @@ use Rattle.vx_file.specs.Plans.{plan_of}
 use Rattle.vx_file.specs.ReaderScans.{IsMissing, IsUndecoded, IsThere, filter_on}
 use Rattle.vx_file.specs.Scans.{FlatLayout, Segments}
 use Rattle.vx_main.specs.Command.{names_of, reads_input, writes_file, hints_of, settings_of_command, scan_hints}
+use Rattle.vx_main.specs.Demo.{demo_refusal}
+use Rattle.vx_main.specs.Generated.{gen_refusal}
 use Rattle.vx_main.specs.Input.{ReadsScript, BadLine, BadLength}
 use Rattle.vx_main.specs.Tables.{BadTableLine}
 use Rattle.vx_main.specs.Outputs.{IsAnswer, text_of, unwritten, Deserves, LacksSegment}
@@ -189,6 +191,26 @@ pub record NotWritten (c : Command) (before now : Outside) (error : WriteError) 
   pub took : TookPrefix (text_of answer) before.out.gained now.out.gained
   pub deserved : Deserves c before 4
 
+-- why a file that a command writes to memory is refused, if a check refuses it
+abbrev pub made_refusal : Command → Option WriteError
+made_refusal Help = None
+made_refusal Version = None
+made_refusal (Serve s) = None
+made_refusal (Demo d) = demo_refusal d.values
+made_refusal (Sizes s) = None
+made_refusal (Prune p) = None
+made_refusal (Scan s) = None
+made_refusal (Write w) = None
+made_refusal (Gen g) = gen_refusal g.seed g.rows
+
+-- the file is refused, and nothing was printed
+pub record NotMade (c : Command) (before now : Outside) (error : WriteError) : Type 0 where
+  pub refused : made_refusal c ≡ Some error
+  pub input : ReadsInput (reads_input c) before.source now.source
+  pub files : now.files ≡ before.files
+  pub out : now.out ≡ before.out
+  pub deserved : Deserves c before 4
+
 -- a write of the answer's text failed, and a prefix of it stands on the output
 pub record OutputFault (c : Command) (before now : Outside) : Type 0 where
   pub answer : Answer
@@ -215,6 +237,7 @@ LeavesFiles (Sizes s) before now = LeavesOpener s.name before now
 LeavesFiles (Prune p) before now = LeavesOpener p.name before now
 LeavesFiles (Scan s) before now = LeavesOpener s.name before now
 LeavesFiles (Write w) before now = now ≡ before
+LeavesFiles (Gen g) before now = now ≡ before
 
 -- memory ran out
 pub record Stopped (c : Command) (before now : Outside) : Type 0 where
@@ -233,6 +256,6 @@ HasCause c before now (failures.Refused refusal) = Refusal c before now refusal
 HasCause c before now failures.MissingSegment = Lacking c before now
 HasCause c before now (failures.Unbound error) = Misfit c before now error
 HasCause c before now (failures.Undecoded error) = Undecodable c before now error
-HasCause c before now (failures.Unwritten error) = NotWritten c before now error
+HasCause c before now (failures.Unwritten error) = NotWritten c before now error ⊎ NotMade c before now error
 HasCause c before now failures.Output = OutputFault c before now
 HasCause c before now failures.OutOfMemory = Stopped c before now

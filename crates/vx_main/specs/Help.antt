@@ -50,7 +50,7 @@ abbrev pub scan_filter_help : List ℕ
 scan_filter_help = codes "      --filter P    only the rows that satisfy the predicate P; it stands last\n"
 
 abbrev pub demo_help : List ℕ
-demo_help = codes "  demo V ..     serves a file of the values V, 1 to 8192 numbers of 32 bits,\n                which it writes to memory\n"
+demo_help = codes "  demo V ..     serves a file of the values V, numbers of 32 bits, which it\n                writes to memory\n"
 
 abbrev pub write_help : List ℕ
 write_help = codes "  write         reads a type and rows, a line each, from standard input, and\n                writes their file to standard output\n"
@@ -63,6 +63,9 @@ write_blocks_help = codes "      --block N     blocks have N rows, 8192 where it
 
 abbrev pub write_more_help : List ℕ
 write_more_help = codes "      --meta K HEX  bytes in hexadecimal under the key K of the metadata\n      --v2          the file is of the second version\n"
+
+abbrev pub gen_help : List ℕ
+gen_help = codes "  gen SEED ROWS writes ROWS rows that follow from SEED, at most 1000000, to memory,\n                and prints how large their file is and what opening it reads\n"
 
 abbrev pub texts_help : List ℕ
 texts_help = codes "  --help        prints this text\n  --version     prints the version\n"
@@ -110,6 +113,6 @@ abbrev pub help_text : List ℕ
 help_text =
     what_help ++ usage_help ++ commands_help ++ serve_help ++ serve_more_help ++ size_help ++ initial_help ++ dtype_help
     ++ meta_help ++ distance_help ++ reads_help ++ cache_help ++ sizes_help ++ prune_help ++ scan_help ++ scan_filter_help ++ demo_help ++ write_help
-    ++ write_options_help ++ write_blocks_help ++ write_more_help ++ texts_help ++ options_help ++ script_help ++ register_help ++ poll_help
-    ++ drop_help ++ drive_help ++ predicates_help ++ nodes_help ++ statuses_help ++ statuses_2_help ++ statuses_3_help ++ statuses_4_help
+    ++ write_options_help ++ write_blocks_help ++ write_more_help ++ gen_help ++ texts_help ++ options_help ++ script_help ++ register_help
+    ++ poll_help ++ drop_help ++ drive_help ++ predicates_help ++ nodes_help ++ statuses_help ++ statuses_2_help ++ statuses_3_help ++ statuses_4_help
     ++ example_help

@@ -1,9 +1,11 @@
 pub mod Command
 pub mod Demo
 pub mod Failures
+pub mod Generated
 pub mod Help
 pub mod InMemory
 pub mod Input
+pub mod MadeFiles
 pub mod MetadataWords
 pub mod Numbers
 pub mod Options
@@ -22,6 +24,8 @@ pub mod Sizes
 pub mod SizesText
 pub mod Statuses
 pub mod Streams
+pub mod Summaries
+pub mod SummaryText
 pub mod Tables
 pub mod Text
 pub mod WriteWords

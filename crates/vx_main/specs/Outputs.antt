@@ -12,18 +12,18 @@ use Rattle.vx_rows.specs.declared.bind_error.BindError.{BindError}
 use Rattle.vx_rows.specs.Predicates.{Pred}
 use Rattle.vx_rows.specs.Rows.{Rows}
 use Rattle.vx_footer.specs.declared.write_error.WriteError.{WriteError}
-use Rattle.vx_write.specs.Column.{written}
 use Rattle.vx_main.specs.declared.answer.Answer.{Answer}
 use Rattle.vx_main.specs.declared.answer.Answer.TheVariants as answers
 use Rattle.vx_main.specs.declared.command.Command.{Command}
-use Rattle.vx_main.specs.declared.command.Command.TheVariants.{Help, Version, Serve, Demo, Sizes, Prune, Scan, Write}
+use Rattle.vx_main.specs.declared.command.Command.TheVariants.{Help, Version, Serve, Demo, Sizes, Prune, Scan, Write, Gen}
 use Rattle.vx_main.specs.declared.input.TheConstants.{MOST_INPUT}
 use Rattle.vx_file.specs.Hints.{Hints, IsSizeOf}
 use Rattle.vx_file.specs.Plans.{plan_of}
 use Rattle.vx_file.specs.Pruned.{pruned}
 use Rattle.vx_file.specs.Ranges.{tail_ranges, opened}
 use Rattle.vx_main.specs.Command.{serve_hints, sizes_hints, prune_hints, scan_hints}
-use Rattle.vx_main.specs.Demo.{Demonstrates}
+use Rattle.vx_main.specs.Demo.{Demonstrates, demo_refusal}
+use Rattle.vx_main.specs.Generated.{gen_refusal}
 use Rattle.vx_main.specs.Help.{help_text}
 use Rattle.vx_main.specs.Input.{ReadsScript}
 use Rattle.vx_main.specs.Outside.{Outside}
@@ -32,6 +32,9 @@ use Rattle.vx_main.specs.Render.{render_text}
 use Rattle.vx_main.specs.Script.{script_of}
 use Rattle.vx_main.specs.Served.{ServesFile, GaveBack, GivesBack}
 use Rattle.vx_main.specs.SizesText.{sizes_text}
+use Rattle.vx_main.specs.Summaries.{SumsUp}
+use Rattle.vx_main.specs.SummaryText.{summary_text}
+use Rattle.vx_main.specs.declared.summary.FileSummary.{FileSummary}
 use Rattle.vx_main.specs.RowsFiles.{bytes_of, refusal_of, RowsOpen}
 use Rattle.vx_main.specs.RowsText.{rows_text}
 use Rattle.vx_main.specs.Scans.{Spells, ScansFile, spelled, opened_status}
@@ -55,6 +58,7 @@ text_of (answers.Served served) = render_text served
 text_of (answers.Sizes sizes) = sizes_text sizes.entries
 text_of (answers.Pruned skipped) = truth_text skipped
 text_of (answers.Rows rows) = rows_text rows
+text_of (answers.Summary summary) = summary_text summary
 text_of (answers.File f) = bytes_of f.arguments f.table
 
 -- why the file of an answer is not written whole, where a check refuses it
@@ -65,6 +69,7 @@ unwritten (answers.Served served) = None
 unwritten (answers.Sizes sizes) = None
 unwritten (answers.Pruned skipped) = None
 unwritten (answers.Rows rows) = None
+unwritten (answers.Summary summary) = None
 unwritten (answers.File f) = refusal_of f.arguments f.table
 
 -- a file of rows opens again, and has the rows of the input
@@ -75,6 +80,7 @@ Opens (answers.Served served) = Unit {0}
 Opens (answers.Sizes sizes) = Unit {0}
 Opens (answers.Pruned skipped) = Unit {0}
 Opens (answers.Rows rows) = Unit {0}
+Opens (answers.Summary summary) = Unit {0}
 Opens (answers.File f) = RowsOpen f
 
 -- whether an answer is no file
@@ -85,6 +91,7 @@ is_text (answers.Served served) = true
 is_text (answers.Sizes sizes) = true
 is_text (answers.Pruned skipped) = true
 is_text (answers.Rows rows) = true
+is_text (answers.Summary summary) = true
 is_text (answers.File f) = false
 
 -- the status that an answer brings
@@ -185,6 +192,16 @@ pub record IsFile (arguments : WriteValue) (before now : Outside) (answer : Answ
   pub reads : ReadsTable before.source now.source table
   pub files : now.files ≡ before.files
 
+-- ---- what is told of a file
+
+-- the file of generated rows, which was written to memory; the input was not touched, and no file was opened
+pub record IsGenerated (seed rows : ℕ) (before now : Outside) (answer : Answer) : Type 0 where
+  pub summary : FileSummary
+  pub is : answer ≡ answers.Summary summary
+  pub sums : SumsUp seed rows summary
+  pub source : now.source ≡ before.source
+  pub files : now.files ≡ before.files
+
 -- what each command answers
 abbrev pub IsAnswer : Command → Outside → Outside → Answer → Type 0
 IsAnswer Help before now answer = IsFixed answers.Help before now answer
@@ -195,6 +212,7 @@ IsAnswer (Sizes s) before now answer = IsMeasured (sizes_hints s) s.name before 
 IsAnswer (Prune p) before now answer = IsJudged (prune_hints p) p.filter p.name before now answer
 IsAnswer (Scan s) before now answer = IsScanned (scan_hints s) s.filter s.name before now answer
 IsAnswer (Write w) before now answer = IsFile w before now answer
+IsAnswer (Gen g) before now answer = IsGenerated g.seed g.rows before now answer
 
 -- ---- the status that a command deserves
 
@@ -259,11 +277,12 @@ abbrev pub wanted_status : Command → Outside → ℕ
 wanted_status Help before = 0
 wanted_status Version before = 0
 wanted_status (Serve s) before = input_status before.source.rest (file_status (serve_hints s) (before.files.file s.name))
-wanted_status (Demo d) before = input_status before.source.rest (grammar_status (vx_grammar (written d.values) None))
+wanted_status (Demo d) before = input_status before.source.rest (refusal_status (demo_refusal d.values))
 wanted_status (Sizes s) before = measured_status (sizes_hints s) (before.files.file s.name)
 wanted_status (Prune p) before = judged_status (prune_hints p) p.filter (before.files.file p.name)
 wanted_status (Scan s) before = scanned_status (scan_hints s) s.filter (before.files.file s.name)
 wanted_status (Write w) before = rows_status w before.source.rest
+wanted_status (Gen g) before = refusal_status (gen_refusal g.seed g.rows)
 
 -- a size that is supplied is that of the file, where the file is told
 abbrev pub IsTrueSize : Option ℕ → Option (List ℕ) → Type 0
@@ -280,6 +299,7 @@ IsTold (Sizes s) before = is_some (before.files.file s.name) ≡ true
 IsTold (Prune p) before = is_some (before.files.file p.name) ≡ true
 IsTold (Scan s) before = is_some (before.files.file s.name) ≡ true
 IsTold (Write w) before = is_some before.source.rest ≡ true
+IsTold (Gen g) before = Unit {0}
 
 abbrev pub Deserves : Command → Outside → ℕ → Type 0
 Deserves c before code = IsTold c before → wanted_status c before ≡ code

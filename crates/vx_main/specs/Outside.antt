@@ -5,7 +5,7 @@ use Rattle.vx_base.specs.Openers.{OpenerState, SameOpener}
 use Rattle.vx_base.specs.Streams.{SourceState, SinkState, SameSource, SameSink}
 use Rattle.vx_file.specs.Hints.{IsSizeOf}
 use Rattle.vx_main.specs.declared.command.Command.{Command}
-use Rattle.vx_main.specs.declared.command.Command.TheVariants.{Help, Version, Serve, Demo, Sizes, Prune, Scan, Write}
+use Rattle.vx_main.specs.declared.command.Command.TheVariants.{Help, Version, Serve, Demo, Sizes, Prune, Scan, Write, Gen}
 
 pub record Outside : Type 0 where
   pub source : SourceState
@@ -41,6 +41,7 @@ FilesSteady (Some (Sizes s)) before now = OpenerSteady None s.name before now
 FilesSteady (Some (Prune p)) before now = OpenerSteady None p.name before now
 FilesSteady (Some (Scan s)) before now = OpenerSteady None s.name before now
 FilesSteady (Some (Write w)) before now = now ≡ before
+FilesSteady (Some (Gen g)) before now = now ≡ before
 
 -- the counts of what never fails stand still
 pub record KeepSteady (command : Option Command) (before now : Outside) : Type 0 where

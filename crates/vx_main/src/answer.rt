@@ -10,10 +10,12 @@ use crate::print::help::put_help;
 use crate::print::rows::put_rows;
 use crate::print::served::put_served;
 use crate::print::sizes::put_sizes;
+use crate::print::summary::put_summary;
 use crate::print::truth::put_truth;
 use crate::printable::Printable;
 use crate::printable_rows::PrintableRows;
 use crate::rows_file::RowsFile;
+use crate::summary::FileSummary;
 use crate::text::TextOut;
 use std::alloc::Global;
 use vx_base::{Sink, SinkError};
@@ -34,6 +36,8 @@ pub enum Answer<'a> {
     Pruned(bool),
     /// The rows of a file.
     Rows(PrintableRows),
+    /// What is told of a file that was written to memory.
+    Summary(FileSummary),
     /// A file of rows.
     File(RowsFile<'a>),
 }
@@ -61,6 +65,7 @@ impl<'a> Answer<'a> {
             Answer::Sizes(sizes) => put_sizes(sizes, text, out),
             Answer::Pruned(skipped) => put_truth(*skipped, text, out),
             Answer::Rows(rows) => put_rows(rows, text, out),
+            Answer::Summary(summary) => put_summary(summary, text, out),
             Answer::File(_) => unreachable!(),
         }
     }
@@ -97,7 +102,8 @@ impl<'a> Answer<'a> {
             | Answer::Served(_)
             | Answer::Sizes(_)
             | Answer::Pruned(_)
-            | Answer::Rows(_) => self.print_text(alloc, out),
+            | Answer::Rows(_)
+            | Answer::Summary(_) => self.print_text(alloc, out),
             Answer::File(file) => file.write(alloc, out),
         }
     }

@@ -6,6 +6,7 @@ ghost use Rattle.vx_main.specs.Runs.{Gathers};
 
 use crate::answer::Answer;
 use crate::commands::demo::Demo;
+use crate::commands::generate::Generate;
 use crate::commands::prune::Prune;
 use crate::commands::scan::Scan;
 use crate::commands::serve::Serve;
@@ -34,6 +35,8 @@ pub enum Command<'a> {
     Scan(Scan<'a>),
     /// Write the rows on the input as a file.
     Write(Write<'a>),
+    /// Write generated rows to memory as a file, and tell of the file.
+    Gen(Generate),
 }
 
 /// A command without arguments.
@@ -73,6 +76,9 @@ impl<'a> Command<'a> {
         if word.as_str() == "write" {
             return Write::parse(alloc, rest);
         }
+        if word.as_str() == "gen" {
+            return Generate::parse(rest);
+        }
         if word.as_str() == "--help" {
             return alone(Command::Help, rest);
         }
@@ -101,6 +107,7 @@ impl<'a> Command<'a> {
             Command::Prune(prune) => prune.answer(alloc, files),
             Command::Scan(scan) => scan.answer(alloc, files),
             Command::Write(write) => write.answer(alloc, input),
+            Command::Gen(generate) => generate.answer(alloc),
         }
     }
 }

@@ -8,5 +8,6 @@ pub(crate) mod rows;
 pub(crate) mod served;
 pub(crate) mod sizes;
 pub(crate) mod statistics;
+pub(crate) mod summary;
 pub(crate) mod truth;
 pub(crate) mod words;

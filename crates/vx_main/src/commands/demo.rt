@@ -1,27 +1,31 @@
 //! `demo V ..`: serves a file of the values, which it writes to memory, by the script on the input.
-ghost use Rattle.std.specs.Prelude.{◌≡◌, ◌≤◌, ◌∷◌, [], length, true, false, is_some, map, string_bytes, unwrap_or, IfOk};
+ghost use Rattle.std.specs.Prelude.{◌≡◌, [], true, is_some, map, string_bytes, unwrap_or, Some, IfOk};
 ghost use Rattle.vx_base.specs.Openers.{OpenerState};
+ghost use Rattle.vx_data.specs.Dtype.{dtype_view};
+ghost use Rattle.vx_data.specs.declared.ptype.PType.TheVariants.{I32};
 ghost use Rattle.vx_main.specs.Command.{all_values, demo_of, Parses};
-ghost use Rattle.vx_main.specs.Demo.{IsWritten, DemoCause};
+ghost use Rattle.vx_main.specs.Demo.{demo_dtype, demo_options, demo_rows, DemoCause};
+ghost use Rattle.vx_main.specs.MadeFiles.{MakesFile};
 ghost use Rattle.vx_main.specs.Outside.{Keeps};
 ghost use Rattle.vx_main.specs.Runs.{Gathers};
+ghost use Rattle.vx_main.specs.Tables.{IsTable};
 ghost use Rattle.vx_main.specs.declared.command.Command.TheVariants as commands;
-ghost use Rattle.vx_main.specs.declared.commands.demo.TheConstants.{MOST_VALUES};
+ghost use Rattle.vx_rows.specs.Rows.{column_view, AreWithin};
 
 use crate::answer::Answer;
 use crate::command::Command;
 use crate::failure::Failure;
 use crate::input::load_script;
+use crate::made_file::MadeFile;
 use crate::numbers::value;
 use crate::printable::Printable;
 use std::alloc::{AllocError, Global};
 use std::marker::Model;
-use vx_base::{Alignment, ByteBuffer, MemSink, Source};
+use vx_base::{Alignment, ByteBuffer, Source};
+use vx_data::{DType, PType, VortexSession};
 use vx_file::{ServeError, Served, Step, serve_in_memory};
-use vx_write::{WriteError, write};
-
-/// The most values that one demonstration takes.
-pub const MOST_VALUES: usize = 8192;
+use vx_rows::Column;
+use vx_write::VortexWriteOptions;
 
 /// The values of a demonstration.
 #[derive(Drop)]
@@ -30,20 +34,16 @@ pub struct Values {
 }
 
 impl Model for Values {
-    ghost use Rattle.std.specs.Prelude.{List, ℤ, ◌≤◌, length};
-    ghost use Rattle.vx_main.specs.declared.commands.demo.TheConstants.{MOST_VALUES};
+    ghost use Rattle.std.specs.Prelude.{List, ℤ};
 
     ghost Value = { List ℤ };
 
     ghost view = { λ v. v.values.items };
-
-    ghost invariant = { λ v. length v.values.items ≤ MOST_VALUES };
 }
 
 impl Values {
     fn as_slice(&self) -> &[i32]
-        ensures values { result.now ≡ self.now }
-        ensures few { length result.now ≤ MOST_VALUES }
+        ensures { result.now ≡ self.now }
     {
         self.values.as_slice()
     }
@@ -70,8 +70,7 @@ fn are_values(words: &[String]) -> bool
 /// The values that words spell.
 fn values_from(alloc: Global, words: &[String]) -> Result<Vec<i32>, AllocError>
     requires { is_some (all_values (map string_bytes words.now)) ≡ true }
-    ensures values { IfOk result (λ values. values.items ≡ unwrap_or (all_values (map string_bytes words.now)) []) }
-    ensures few { IfOk result (λ values. length values.items ≤ length words.now) }
+    ensures { IfOk result (λ values. values.items ≡ unwrap_or (all_values (map string_bytes words.now)) []) }
 {
     let mut values = Vec::new(alloc);
     for word in words {
@@ -83,43 +82,77 @@ fn values_from(alloc: Global, words: &[String]) -> Result<Vec<i32>, AllocError>
     Ok(values)
 }
 
-/// The file of some values.
-fn written_file<'a>(alloc: Global, values: &[i32]) -> Result<Vec<u8>, Failure<'a>>
-    requires { length values.now ≤ MOST_VALUES }
-    ensures { IsWritten values.now result }
+/// The values as rows, of which none is null.
+fn rows_of(alloc: Global, values: &[i32]) -> Result<Vec<Option<i128>>, AllocError>
+    ensures rows { IfOk result (λ rows. rows.items ≡ map Some values.now) }
+    ensures within { IfOk result (λ rows. AreWithin I32 rows.items) }
 {
-    let mut out = MemSink::new(alloc, Vec::new(alloc));
-    match write(alloc, &mut out, values) {
-        Ok(_) => Ok(out.into_bytes()),
-        Err(WriteError::OutOfMemory) => Err(Failure::OutOfMemory),
-        // So few values fit a segment, and the sink has no failing call.
-        Err(WriteError::SegmentTooLong) | Err(WriteError::WriteFault) => unreachable!(),
+    let mut rows = Vec::new(alloc);
+    for value in values {
+        rows.push(Some(i128::from(*value)))?;
     }
+    Ok(rows)
+}
+
+/// The values as a column.
+#[tactic(auto, using(crate::proofs::DemoArms::all_there))]
+fn column_of(alloc: Global, values: &[i32]) -> Result<Column, AllocError>
+    ensures value { IfOk result (λ column. column_view column ≡ demo_rows values.now) }
+    ensures table { IfOk result (λ column. IsTable demo_dtype (column_view column)) }
+{
+    let rows = rows_of(alloc, values)?;
+    let column = Column::ints(alloc, PType::I32, &rows, false)?;
+    prove!(column.len() <= usize::MAX);
+    Ok(column)
+}
+
+/// What the file is written with: no statistics.
+fn options(alloc: Global) -> Result<VortexWriteOptions, AllocError>
+    ensures { IfOk result (λ o. o ≡ demo_options) }
+{
+    let session = VortexSession::new(alloc)?;
+    let options = VortexWriteOptions::new(alloc, session)?;
+    Ok(options.with_file_statistics(Vec::new(alloc)))
+}
+
+/// The type of the rows.
+fn row_type() -> DType
+    ensures { dtype_view result ≡ demo_dtype }
+{
+    DType::Int(PType::I32, false)
+}
+
+/// The file of some values.
+fn made_file<'a>(alloc: Global, values: &[i32]) -> Result<MadeFile, Failure<'a>>
+    ensures { MakesFile demo_options demo_dtype (demo_rows values.now) result }
+{
+    let column = column_of(alloc, values)?;
+    let options = options(alloc)?;
+    MadeFile::write(alloc, options, row_type(), &column)
 }
 
 /// Serves a script from the file of some values.
 fn demonstrate<'a>(alloc: Global, values: &[i32], script: &[Step]) -> Result<Served, Failure<'a>>
-    requires { length values.now ≤ MOST_VALUES }
     ensures { DemoCause values.now script.now result }
 {
-    let bytes = written_file(alloc, values)?;
-    let file = ByteBuffer::from_vec(alloc, bytes, Alignment::none())?;
+    let made = made_file(alloc, values)?;
+    let file = ByteBuffer::from_vec(alloc, made.bytes, Alignment::none())?;
     match serve_in_memory(alloc, file, script) {
         Ok(served) => Ok(served),
         Err(ServeError::OutOfMemory) => Err(Failure::OutOfMemory),
-        // The file is in the grammar, no read of it fails, and there is no cache.
-        Err(ServeError::Open(_)) | Err(ServeError::Fault(_)) | Err(ServeError::CacheFault) => {
-            unreachable!()
-        }
+        // The file is in the grammar.
+        Err(ServeError::Open(_)) => unreachable!(),
+        // No read of it fails, and there is no cache.
+        Err(ServeError::Fault(_)) | Err(ServeError::CacheFault) => unreachable!(),
     }
 }
 
 impl Demo {
-    /// At least one value, and at most so many.
+    /// At least one value.
     pub(crate) fn parse<'a>(alloc: Global, words: &'a [String]) -> Result<Command<'a>, Failure<'a>>
         ensures { Parses (demo_of (map string_bytes words.now)) result }
     {
-        if words.is_empty() || words.len() > MOST_VALUES || !are_values(words) {
+        if words.is_empty() || !are_values(words) {
             return Err(Failure::Usage);
         }
         let values = values_from(alloc, words)?;

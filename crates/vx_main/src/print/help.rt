@@ -46,7 +46,7 @@ const SCAN_FILTER: &[u8] =
     b"      --filter P    only the rows that satisfy the predicate P; it stands last\n";
 
 const DEMO: &[u8] =
-    b"  demo V ..     serves a file of the values V, 1 to 8192 numbers of 32 bits,\n                which it writes to memory\n";
+    b"  demo V ..     serves a file of the values V, numbers of 32 bits, which it\n                writes to memory\n";
 
 const WRITE: &[u8] =
     b"  write         reads a type and rows, a line each, from standard input, and\n                writes their file to standard output\n";
@@ -59,6 +59,9 @@ const WRITE_BLOCKS: &[u8] =
 
 const WRITE_MORE: &[u8] =
     b"      --meta K HEX  bytes in hexadecimal under the key K of the metadata\n      --v2          the file is of the second version\n";
+
+const GEN: &[u8] =
+    b"  gen SEED ROWS writes ROWS rows that follow from SEED, at most 1000000, to memory,\n                and prints how large their file is and what opening it reads\n";
 
 const TEXTS: &[u8] = b"  --help        prints this text\n  --version     prints the version\n";
 
@@ -117,6 +120,7 @@ pub(crate) fn put_help<S: Sink>(text: &mut TextOut, out: &mut S)
     text.word(out, WRITE_OPTIONS);
     text.word(out, WRITE_BLOCKS);
     text.word(out, WRITE_MORE);
+    text.word(out, GEN);
     text.word(out, TEXTS);
     text.word(out, OPTIONS);
     text.word(out, SCRIPT);

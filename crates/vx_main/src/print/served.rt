@@ -11,7 +11,8 @@ use crate::text::TextOut;
 use vx_base::{Sequence, Sink};
 use vx_file::{MetadataValue, Reply};
 
-fn put_ranges<S: Sink>(ranges: &[(u64, u64)], text: &mut TextOut, out: &mut S)
+/// Adds the ranges that were asked, a line each.
+pub(crate) fn put_ranges<S: Sink>(ranges: &[(u64, u64)], text: &mut TextOut, out: &mut S)
     ensures { Adds (flat_map read_line ranges.now) text.old (S.state out.old) text.new (S.state out.new) }
 {
     for range in ranges {

@@ -26,3 +26,9 @@ pub returns-in-Write-clause-keeps : goal.returns-in-Write-clause-keeps
 returns-in-Write-clause-keeps g c =
     let files = g.F.Opener.state c.args.files.now in
     subst (λ x. Keeps x (g.I.Source.state c.args.input.now) (g.I.Source.state c.answer-in-Write.new.input) files files) (sym c.in-Write.is) (c.answer-in-Write.ensures.keeps files)
+
+pub returns-in-Gen-clause-keeps : goal.returns-in-Gen-clause-keeps
+returns-in-Gen-clause-keeps g c =
+    let source = g.I.Source.state c.args.input.now in
+    let files = g.F.Opener.state c.args.files.now in
+    subst (λ x. Keeps x source source files files) (sym c.in-Gen.is) (c.answer-in-Gen.ensures.keeps source files)

@@ -9,4 +9,4 @@ returns g c =
     let texts = adds_then (adds_then (adds_then (adds_then (adds_then others c.word-16.ensures) c.word-17.ensures) c.word-18.ensures) c.word-19.ensures) c.word-20.ensures in
     let script = adds_then (adds_then (adds_then (adds_then (adds_then texts c.word-21.ensures) c.word-22.ensures) c.word-23.ensures) c.word-24.ensures) c.word-25.ensures in
     let predicates = adds_then (adds_then (adds_then (adds_then (adds_then script c.word-26.ensures) c.word-27.ensures) c.word-28.ensures) c.word-29.ensures) c.word-30.ensures in
-    adds_then (adds_then (adds_then (adds_then (adds_then predicates c.word-31.ensures) c.word-32.ensures) c.word-33.ensures) c.word-34.ensures) c.word-35.ensures
+    adds_then (adds_then (adds_then (adds_then (adds_then (adds_then predicates c.word-31.ensures) c.word-32.ensures) c.word-33.ensures) c.word-34.ensures) c.word-35.ensures) c.word-36.ensures

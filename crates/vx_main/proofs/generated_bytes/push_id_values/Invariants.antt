@@ -1,0 +1,11 @@
+use Rattle.std.proofs.Common.{◌≡◌, ◌++◌, ◌-◌}
+use Rattle.std.specs.List.{flat_map}
+use Rattle.vx_data.specs.declared.ptype.PType.TheVariants.{U32}
+use Rattle.vx_rows.specs.Span.{span}
+use Rattle.vx_rows.specs.Written.{cell}
+use Rattle.vx_main.specs.Generated.{id_of}
+use Rattle.vx_main.proofs.generated_bytes.push_id_values.Given as goal
+
+-- what is there and the values still to come
+abbrev pub invariant-loop-row : goal.invariant-loop-row
+invariant-loop-row l = l.bytes.items ++ flat_map (cell U32) (span id_of l.row (l.rows - l.row)) ≡ l.fn.bytes.items ++ flat_map (cell U32) (span id_of 0 l.rows)
