@@ -1,5 +1,5 @@
 //! A caller of the library: it opens a file and prints a segment.
-use crate::serving::{FOUR, file};
+use crate::serving::file_of_four;
 use std::alloc::Global;
 use std::fs;
 use std::test::Fail;
@@ -32,7 +32,7 @@ fn print_first<S: Sink>(rt: &HostRuntime, path: &str, out: &mut S) -> Result<(),
 fn the_first_segment_of_a_file_is_printed(rt: HostRuntime) -> Result<(), Fail> {
     let process = std::process::id(rt.process());
     let path = format!(in rt.alloc(); "/tmp/vx_example_{process}")?;
-    fs::write(&rt, path.as_str(), file(rt.alloc(), FOUR)?.as_slice())?;
+    fs::write(&rt, path.as_str(), file_of_four(rt.alloc())?.as_slice())?;
     let mut out = MemSink::new(rt.alloc(), Vec::new(rt.alloc()));
     print_first(&rt, path.as_str(), &mut out)?;
     let printed = out.into_bytes();

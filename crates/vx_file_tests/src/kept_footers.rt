@@ -1,5 +1,5 @@
 //! Footers that are kept by name, with ample memory.
-use crate::serving::{FOUR, file};
+use crate::serving::file_of_four;
 use std::alloc::Global;
 use std::test::Fail;
 use vx_base::{MemReader, SegmentId};
@@ -15,7 +15,7 @@ fn unknown(alloc: Global) -> Result<Footer, Fail> {
 
 // A footer of 281 bytes.
 fn known(alloc: Global) -> Result<Option<Footer>, Fail> {
-    let buffer = file(alloc, FOUR)?;
+    let buffer = file_of_four(alloc)?;
     let size = buffer.len() as u64;
     let mut deserializer = Footer::deserializer(buffer, VortexSession::new(alloc)?).with_size(size);
     match deserializer.deserialize(alloc)? {
@@ -71,7 +71,7 @@ fn asked(
     key: Option<&str>,
 ) -> Result<Option<usize>, Fail> {
     let session = VortexSession::new(alloc)?;
-    let bytes = file(alloc, FOUR)?;
+    let bytes = file_of_four(alloc)?;
     let reader = MemReader::new(alloc, bytes, None, None, 8, Vec::new(alloc))?;
     match open_cached(alloc, &session, kept, key, reader, None, |options| options) {
         Ok(mut file) if file.row_count() == 4 => {

@@ -1,17 +1,13 @@
-//! Tests of the libraries that write and open whole files, which use their public calls alone. They stand apart, so that no
-//! library is proved twice.
+//! Tests of files that are opened, served and scanned, and of the smallest files that are written, which use the public
+//! calls of the libraries alone.
 #![tactic(auto)]
 
 #[cfg(test)]
 mod example;
 #[cfg(test)]
-mod failing_writes;
-#[cfg(test)]
 mod four_values;
 #[cfg(test)]
 mod kept_footers;
-#[cfg(test)]
-mod layouts;
 #[cfg(test)]
 mod multi_files;
 #[cfg(test)]
@@ -19,14 +15,6 @@ mod opening;
 #[cfg(test)]
 mod reader_scans;
 #[cfg(test)]
-mod reopening;
-#[cfg(test)]
 mod scans;
 #[cfg(test)]
-mod segments;
-#[cfg(test)]
 mod serving;
-#[cfg(test)]
-mod streams;
-#[cfg(test)]
-mod writers;

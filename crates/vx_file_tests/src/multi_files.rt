@@ -1,6 +1,6 @@
 //! Files that are read as one, with ample memory.
-use crate::scans::{NESTED, has};
-use crate::serving::{FOUR, file};
+use crate::scans::{file_of_structs, has};
+use crate::serving::file_of_four;
 use std::alloc::Global;
 use std::test::Fail;
 use vx_base::{MemOpener, NoCache};
@@ -11,10 +11,12 @@ use vx_rows::Column;
 // An opener of two files of four values, and one of structs.
 fn opener(alloc: Global) -> Result<MemOpener, Fail> {
     let mut files = Vec::new(alloc);
-    for (name, text) in [("a", FOUR), ("b", FOUR), ("other", NESTED)] {
+    for name in ["a", "b"] {
         let name = String::from_str(alloc, name)?;
-        files.push((name, file(alloc, text)?, Vec::new(alloc)))?;
+        files.push((name, file_of_four(alloc)?, Vec::new(alloc)))?;
     }
+    let other = String::from_str(alloc, "other")?;
+    files.push((other, file_of_structs(alloc)?, Vec::new(alloc)))?;
     Ok(MemOpener::new(alloc, files, Vec::new(alloc)))
 }
 

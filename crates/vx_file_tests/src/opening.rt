@@ -1,5 +1,5 @@
 //! Files that are opened by readers and by names, with ample memory.
-use crate::serving::{FOUR, file};
+use crate::serving::{file, file_of_four};
 use std::alloc::Global;
 use std::test::Fail;
 use vx_base::{ByteBuffer, MemOpener, MemReader, SegmentId};
@@ -31,7 +31,7 @@ fn is_four<S: SegmentSource>(alloc: Global, file: &mut VortexFile<S>) -> bool {
 fn a_file_is_opened_by_its_reader(rt: HostRuntime) -> Result<(), Fail> {
     let alloc = rt.alloc();
     let session = VortexSession::new(alloc)?;
-    let bytes = file(alloc, FOUR)?;
+    let bytes = file_of_four(alloc)?;
     let reader = MemReader::new(alloc, bytes, None, None, 8, Vec::new(alloc))?;
     let opened = session.open_options(alloc)?.open(alloc, reader);
     let mut four = opened.ok().ok_or("refused")?;
@@ -43,7 +43,7 @@ fn a_file_is_opened_by_its_reader(rt: HostRuntime) -> Result<(), Fail> {
 fn a_file_is_opened_by_its_name(rt: HostRuntime) -> Result<(), Fail> {
     let alloc = rt.alloc();
     let session = VortexSession::new(alloc)?;
-    let mut files = opener(alloc, "four", file(alloc, FOUR)?)?;
+    let mut files = opener(alloc, "four", file_of_four(alloc)?)?;
     let opened = session
         .open_options(alloc)?
         .open_path(alloc, &mut files, "four");

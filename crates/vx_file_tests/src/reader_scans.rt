@@ -1,6 +1,6 @@
 //! Scans by a reader that is given back, with ample memory.
 use crate::scans::{damaged, field, has, number};
-use crate::serving::{FOUR, file};
+use crate::serving::file_of_four;
 use std::alloc::Global;
 use std::test::Fail;
 use vx_base::{ByteBuffer, FaultKind, MemReader, Mischief, MischiefKind, SegmentId};
@@ -31,7 +31,7 @@ fn was_asked_once(reader: &MemReader) -> bool {
 #[test]
 fn a_reader_that_is_scanned_is_given_back(rt: HostRuntime) -> Result<(), Fail> {
     let alloc = rt.alloc();
-    let (reader, rows) = scanned(alloc, file(alloc, FOUR)?, Vec::new(alloc), None)?;
+    let (reader, rows) = scanned(alloc, file_of_four(alloc)?, Vec::new(alloc), None)?;
     assert!(rt; has(alloc, &rows.ok().ok_or("no rows")?, "1\n2\n3\n4\n")?);
     assert!(rt; was_asked_once(&reader));
     Ok(())
@@ -42,10 +42,15 @@ fn a_predicate_is_bound_and_keeps_rows(rt: HostRuntime) -> Result<(), Fail> {
     let alloc = rt.alloc();
     let root = Box::new(alloc, Predicate::Root)?;
     let more = Predicate::Compare(Comparison::Gt, root, number(alloc, PType::I32, 2)?);
-    let (_, rows) = scanned(alloc, file(alloc, FOUR)?, Vec::new(alloc), Some(more))?;
+    let (_, rows) = scanned(alloc, file_of_four(alloc)?, Vec::new(alloc), Some(more))?;
     assert!(rt; has(alloc, &rows.ok().ok_or("no rows")?, "3\n4\n")?);
     let none = Predicate::IsNull(field(alloc, "id")?);
-    let (reader, rows) = scanned(alloc, damaged(alloc, FOUR, 8)?, Vec::new(alloc), Some(none))?;
+    let (reader, rows) = scanned(
+        alloc,
+        damaged(alloc, file_of_four(alloc)?, 8)?,
+        Vec::new(alloc),
+        Some(none),
+    )?;
     assert!(rt; rows.err() == Some(ScanReaderError::Unbound(BindError::NoField)));
     assert!(rt; was_asked_once(&reader));
     Ok(())
@@ -59,14 +64,19 @@ fn a_reader_that_fails_is_given_back(rt: HostRuntime) -> Result<(), Fail> {
         at: 0,
         kind: MischiefKind::Fail,
     })?;
-    let (reader, rows) = scanned(alloc, file(alloc, FOUR)?, mischief, None)?;
+    let (reader, rows) = scanned(alloc, file_of_four(alloc)?, mischief, None)?;
     let failed = match rows {
         Err(ScanReaderError::Read(fault)) => fault.kind() == FaultKind::ReadFault,
         _ => false,
     };
     assert!(rt; failed);
     assert!(rt; was_asked_once(&reader));
-    let (reader, rows) = scanned(alloc, damaged(alloc, FOUR, 8)?, Vec::new(alloc), None)?;
+    let (reader, rows) = scanned(
+        alloc,
+        damaged(alloc, file_of_four(alloc)?, 8)?,
+        Vec::new(alloc),
+        None,
+    )?;
     assert!(rt; rows.err() == Some(ScanReaderError::BadArray(SegmentId(0))));
     assert!(rt; was_asked_once(&reader));
     Ok(())

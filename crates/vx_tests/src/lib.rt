@@ -3,8 +3,6 @@
 #![tactic(auto)]
 
 #[cfg(test)]
-mod arrays;
-#[cfg(test)]
 mod base;
 #[cfg(test)]
 mod data;
@@ -13,15 +11,7 @@ mod footers;
 #[cfg(test)]
 mod merging;
 #[cfg(test)]
-mod parts;
-#[cfg(test)]
 mod postscripts;
-#[cfg(test)]
-mod predicate_words;
-#[cfg(test)]
-mod predicates;
-#[cfg(test)]
-mod pruning;
 #[cfg(test)]
 mod scheduler;
 #[cfg(test)]

@@ -5,7 +5,7 @@ use vx_base::MemSink;
 use vx_data::{DType, PType, VortexSession};
 use vx_footer::WriteError;
 use vx_rows::Column;
-use vx_write::{VortexWriteOptions, WriteStrategyBuilder};
+use vx_write::{VecChunks, VortexWriteOptions, WriteStrategyBuilder};
 
 // Options by which each two rows are a segment of their own.
 fn options(alloc: Global) -> Result<VortexWriteOptions, Fail> {
@@ -85,5 +85,27 @@ fn a_writer_whose_sink_failed_goes_on_no_more(rt: HostRuntime) -> Result<(), Fai
         b"VTXF\0\0\0\0".get(..bytes.len()).ok_or("longer")?,
         bytes.as_slice()
     );
+    Ok(())
+}
+
+#[test]
+fn chunks_of_a_source_are_pushed_until_it_fails(rt: HostRuntime) -> Result<(), Fail> {
+    let alloc = rt.alloc();
+    // The place of the call that fails, and how many rows the file has where none does.
+    for (fails, wanted) in [(None, Some(6)), (Some(0), Some(0)), (Some(1), None)] {
+        let mut places = Vec::new(alloc);
+        if let Some(place) = fails {
+            places.push(place)?;
+        }
+        let values = [Some(1), None, Some(3)];
+        let pair = vec![in alloc; numbers(alloc, &values)?, numbers(alloc, &values)?]?;
+        let mut chunks = VecChunks::new(pair, places);
+        let out = MemSink::new(alloc, Vec::new(alloc));
+        let mut writer = options(alloc)?.writer(alloc, out, DType::Int(PType::I32, true))?;
+        let fault = fails.map(|_| WriteError::ChunkFault);
+        assert!(rt; writer.push_stream(alloc, &mut chunks).err() == fault);
+        let (_, finished) = writer.finish(alloc);
+        assert!(rt; finished.ok().map(|summary| summary.row_count()) == wanted);
+    }
     Ok(())
 }

@@ -47,30 +47,103 @@ fn skips(alloc: Global, dtype: &str, set: StatsSet, rows: u64, words: &str) -> R
     Ok(can_prune_file_stats(&bound, rows, &stats, &whole))
 }
 
+// A value of a type, as its text spells it.
+fn value(alloc: Global, dtype: &str, text: &str) -> Result<Scalar, Fail> {
+    match dtype {
+        "bool?" => Ok(Scalar::Bool(text == "true")),
+        "text?" => Ok(Scalar::Text(String::from_str(alloc, text)?)),
+        _ => Ok(Scalar::Int(text.parse::<i128>()?)),
+    }
+}
+
+// The same statistics of values of any type.
+fn bounds(
+    alloc: Global,
+    dtype: &str,
+    least: &str,
+    greatest: &str,
+    nulls: i128,
+) -> Result<StatsSet, Fail> {
+    let mut set = StatsSet::new();
+    set.set(Stat::Min, value(alloc, dtype, least)?, Precision::Exact);
+    set.set(Stat::Max, value(alloc, dtype, greatest)?, Precision::Exact);
+    set.set(Stat::NullCount, Scalar::Int(nulls), Precision::Exact);
+    Ok(set)
+}
+
+const COMPARISONS: [&str; 6] = ["eq", "ne", "lt", "le", "gt", "ge"];
+
+// Whether no value between two others satisfies a comparison with a literal. Each is the number of a value, in order.
+fn never(comparison: &str, literal: usize, least: usize, greatest: usize) -> bool {
+    match comparison {
+        "eq" => literal < least || greatest < literal,
+        "ne" => least == literal && greatest == literal,
+        "lt" => literal <= least,
+        "le" => literal < least,
+        "gt" => greatest <= literal,
+        _ => greatest < literal,
+    }
+}
+
+// How many comparisons of a field, whose bounds have these numbers, are not answered by the slow rule.
+fn count_wrong(
+    alloc: Global,
+    dtype: &str,
+    values: &[&str],
+    least: usize,
+    greatest: usize,
+) -> Result<usize, Fail> {
+    let mut wrong: usize = 0;
+    for comparison in COMPARISONS {
+        for (literal, text) in values.iter().enumerate() {
+            for nulls in [0, 3] {
+                let low = values.get(least).ok_or("none")?;
+                let high = values.get(greatest).ok_or("none")?;
+                let set = bounds(alloc, dtype, low, high, nulls)?;
+                let words = format!(in alloc; "{comparison} field col lit {dtype} {text}")?;
+                let is_pruned = skips(alloc, dtype, set, 7, words.as_str())?;
+                if is_pruned != never(comparison, literal, least, greatest) {
+                    wrong = wrong.saturating_add(1);
+                }
+            }
+        }
+    }
+    Ok(wrong)
+}
+
 #[test]
 fn comparisons_are_pruned_at_exact_bounds(rt: HostRuntime) -> Result<(), Fail> {
     let alloc = rt.alloc();
-    // A digit for each literal: 1 where the file is skipped whose values are from 10 to 20.
-    for (op, digits) in [
-        ("eq", "100001"),
-        ("ne", "000000"),
-        ("lt", "110000"),
-        ("le", "100000"),
-        ("gt", "000011"),
-        ("ge", "000001"),
-    ] {
-        for dtype in ["u8", "i16?", "u64", "i64?"] {
-            let mut found = String::new(alloc);
-            for literal in ["9", "10", "11", "19", "20", "21"] {
-                let words = format!(in alloc; "{op} field col lit {dtype} {literal}")?;
-                let exact = numbers(10, 20, 0, Precision::Exact);
-                let is_pruned = skips(alloc, dtype, exact, 7, words.as_str())?;
-                found.push_str(if is_pruned { "1" } else { "0" })?;
-                let inexact = numbers(10, 20, 0, Precision::Inexact);
-                assert!(rt; !skips(alloc, dtype, inexact, 7, words.as_str())?);
+    // Each type with some of its values, in their order.
+    let cases: [(&str, &[&str]); 10] = [
+        ("bool?", &["false", "true"]),
+        ("u8?", &["0", "1", "2", "254", "255"]),
+        ("u16?", &["9", "10", "11", "65534", "65535"]),
+        ("u32?", &["9", "10", "11", "19", "4294967295"]),
+        ("u64?", &["9", "10", "11", "19", "18446744073709551615"]),
+        ("i8?", &["-128", "-127", "-1", "0", "127"]),
+        ("i16?", &["-32768", "-1", "0", "1", "32767"]),
+        ("i32?", &["-2", "-1", "0", "1", "2147483647"]),
+        ("i64?", &["-9223372036854775808", "-1", "0", "1", "2"]),
+        ("text?", &["a", "aa", "b", "ba", "c"]),
+    ];
+    for (dtype, values) in cases {
+        for greatest in 0..values.len() {
+            for least in 0..=greatest {
+                assert_eq!(rt; count_wrong(alloc, dtype, values, least, greatest)?, 0);
             }
-            assert_eq!(rt; found.as_str(), digits);
         }
+    }
+    Ok(())
+}
+
+#[test]
+fn inexact_bounds_prune_nothing(rt: HostRuntime) -> Result<(), Fail> {
+    let alloc = rt.alloc();
+    for comparison in COMPARISONS {
+        let inexact = numbers(10, 10, 0, Precision::Inexact);
+        let words = format!(in alloc; "{comparison} field col lit i32 10")?;
+        assert!(rt; !skips(alloc, "i32", inexact, 7, words.as_str())?);
     }
     Ok(())
 }
