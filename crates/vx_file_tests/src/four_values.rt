@@ -5,7 +5,7 @@ use std::test::Fail;
 use vx_base::MemSink;
 use vx_data::{DType, PType, VortexSession};
 use vx_footer::WriteError;
-use vx_rows::Column;
+use vx_rows::read_rows;
 use vx_write::{VortexWriteOptions, WriteSummary, write_rows};
 
 // A file, or the part of it that a sink took.
@@ -15,13 +15,14 @@ struct File {
     bytes: Vec<u8>,
 }
 
-// The file of values of i32 without statistics, whose sink fails at these calls.
-fn make_file(alloc: Global, values: &[Option<i128>], fail: Vec<u64>) -> Result<File, Fail> {
+// The file of values of i32, a line each, without statistics, whose sink fails at these calls.
+fn make_file(alloc: Global, values: &str, fail: Vec<u64>) -> Result<File, Fail> {
     let options = VortexWriteOptions::new(alloc, VortexSession::new(alloc)?)?;
     let options = options.with_file_statistics(Vec::new(alloc));
-    let rows = vec![in alloc; Column::ints(alloc, PType::I32, values, false)?]?;
-    let mut out = MemSink::new(alloc, fail);
     let dtype = DType::Int(PType::I32, false);
+    let column = read_rows(alloc, &dtype, values).ok().ok_or("no rows")?;
+    let rows = vec![in alloc; column]?;
+    let mut out = MemSink::new(alloc, fail);
     let answer = write_rows(alloc, options, &mut out, dtype, &rows);
     Ok(File {
         answer,
@@ -31,16 +32,17 @@ fn make_file(alloc: Global, values: &[Option<i128>], fail: Vec<u64>) -> Result<F
 
 // The file of the numbers 1 to 4.
 fn four_values(alloc: Global, fail: Vec<u64>) -> Result<File, Fail> {
-    make_file(alloc, &[Some(1), Some(2), Some(3), Some(4)], fail)
+    make_file(alloc, "1\n2\n3\n4\n", fail)
 }
 
 // The file of so many numbers, from 0 on.
-fn counted(alloc: Global, count: i128) -> Result<File, Fail> {
-    let mut values = Vec::new(alloc);
+fn counted(alloc: Global, count: u64) -> Result<File, Fail> {
+    let mut values = String::new(alloc);
     for value in 0..count {
-        values.push(Some(value))?;
+        let line = format!(in alloc; "{value}\n")?;
+        values.push_str(line.as_str())?;
     }
-    make_file(alloc, values.as_slice(), Vec::new(alloc))
+    make_file(alloc, values.as_str(), Vec::new(alloc))
 }
 
 // Whether a file has so many bytes, and one segment of so many.
@@ -72,8 +74,8 @@ fn four_values_make_these_bytes(rt: HostRuntime) -> Result<(), Fail> {
 #[test]
 fn the_least_and_the_greatest_value_are_written(rt: HostRuntime) -> Result<(), Fail> {
     let alloc = rt.alloc();
-    let values = [Some(-2147483648), Some(2147483647), Some(-1)];
-    let file = make_file(alloc, &values, Vec::new(alloc))?;
+    let values = "-2147483648\n2147483647\n-1\n";
+    let file = make_file(alloc, values, Vec::new(alloc))?;
     let segment = [
         1, 0, 0, 0, 0, 0x80, 0xff, 0xff, 0xff, 0x7f, 0xff, 0xff, 0xff, 0xff,
     ];

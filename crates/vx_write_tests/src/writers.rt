@@ -4,7 +4,7 @@ use std::test::Fail;
 use vx_base::MemSink;
 use vx_data::{DType, PType, VortexSession};
 use vx_footer::WriteError;
-use vx_rows::Column;
+use vx_rows::{Column, read_rows};
 use vx_write::{VecChunks, VortexWriteOptions, WriteStrategyBuilder};
 
 // Options by which each two rows are a segment of their own.
@@ -16,8 +16,13 @@ fn options(alloc: Global) -> Result<VortexWriteOptions, Fail> {
     Ok(VortexWriteOptions::new(alloc, session)?.with_strategy(strategy))
 }
 
-fn numbers(alloc: Global, values: &[Option<i128>; 3]) -> Result<Column, Fail> {
-    Ok(Column::ints(alloc, PType::I32, &[values[0], values[1], values[2]], true)?)
+// The numbers 1 and 3, and a null between them.
+fn numbers(alloc: Global) -> Result<Column, Fail> {
+    let dtype = DType::Int(PType::I32, true);
+    match read_rows(alloc, &dtype, "1\n~\n3\n") {
+        Ok(column) => Ok(column),
+        Err(_) => Err(Fail::from("no rows")),
+    }
 }
 
 #[test]
@@ -28,7 +33,7 @@ fn a_writer_takes_chunks_of_its_type_alone(rt: HostRuntime) -> Result<(), Fail> 
     let out = MemSink::new(alloc, Vec::new(alloc));
     let dtype = DType::Int(PType::I32, true);
     let mut writer = options.writer(alloc, out, dtype)?;
-    let chunk = numbers(alloc, &[Some(1), None, Some(3)])?;
+    let chunk = numbers(alloc)?;
     writer.push(alloc, &chunk)?;
     // The magic, four zeros, and the array of two rows; the third row is held back.
     assert_eq!(rt; writer.bytes_written(), 20);
@@ -51,7 +56,7 @@ fn a_refused_chunk_before_the_first_byte_changes_nothing(rt: HostRuntime) -> Res
         writer.push(alloc, &other).err(),
         Some(WriteError::ChunkDType)
     );
-    writer.push(alloc, &numbers(alloc, &[Some(1), None, Some(3)])?)?;
+    writer.push(alloc, &numbers(alloc)?)?;
     // From the first byte on a refusal leaves the writer broken.
     assert_eq!(rt;
         writer.push(alloc, &other).err(),
@@ -69,7 +74,7 @@ fn a_writer_whose_sink_failed_goes_on_no_more(rt: HostRuntime) -> Result<(), Fai
     let out = MemSink::new(alloc, vec![in alloc; 1]?);
     let dtype = DType::Int(PType::I32, true);
     let mut writer = options(alloc)?.blocking().writer(alloc, out, dtype)?;
-    let chunk = numbers(alloc, &[Some(1), None, Some(3)])?;
+    let chunk = numbers(alloc)?;
     assert_eq!(rt;
         writer.push(alloc, &chunk).err(),
         Some(WriteError::WriteFault)
@@ -97,8 +102,7 @@ fn chunks_of_a_source_are_pushed_until_it_fails(rt: HostRuntime) -> Result<(), F
         if let Some(place) = fails {
             places.push(place)?;
         }
-        let values = [Some(1), None, Some(3)];
-        let pair = vec![in alloc; numbers(alloc, &values)?, numbers(alloc, &values)?]?;
+        let pair = vec![in alloc; numbers(alloc)?, numbers(alloc)?]?;
         let mut chunks = VecChunks::new(pair, places);
         let out = MemSink::new(alloc, Vec::new(alloc));
         let mut writer = options(alloc)?.writer(alloc, out, DType::Int(PType::I32, true))?;
