@@ -1,5 +1,6 @@
 //! How the rows of a column are laid out in segments.
 ghost use Rattle.std.specs.Prelude.{◌≡◌, ◌<◌, ◌^◌, ◌==◌, [], ◌∷◌, IfOk, length, map, Some, replicate};
+ghost use Rattle.std.specs.Arc.{arc_value};
 ghost use Rattle.std.specs.Option.{option_to_list};
 ghost use Rattle.vx_data.specs.Dtype.{dtype_view};
 ghost use Rattle.vx_data.specs.Layout.{node, no_layouts, layouts_of, numbers_of, kind_of, dtype_of, rows_of, segments_of, children_of, rows_sum, Fits};
@@ -56,27 +57,40 @@ fn sum_of(children: &[Layout]) -> u64
     rows
 }
 
+/// Layouts with room for more owners. Where there are none, they take no memory of their own.
+pub(crate) fn held(
+    alloc: Global,
+    none: &Arc<Vec<Layout>, Global>,
+    layouts: Vec<Layout>,
+) -> Result<Arc<Vec<Layout>, Global>, AllocError>
+    requires { (arc_value none.now).items ≡ [] }
+    ensures { IfOk result (λ held. (arc_value held).items ≡ layouts.items) }
+{
+    if layouts.is_empty() {
+        return Ok(Arc::try_clone(none)?);
+    }
+    Ok(Arc::new(alloc, layouts)?)
+}
+
 impl Layout {
     /// A layout of these parts.
     pub(crate) fn made(
-        alloc: Global,
         kind: LayoutKind,
         dtype: DType,
         row_count: u64,
         segment: Option<SegmentId>,
-        children: Vec<Layout>,
-    ) -> Result<Layout, AllocError>
-        requires { Fits kind (dtype_view dtype) row_count (numbers_of (option_to_list segment)) children.items }
-        ensures { IfOk result (λ layout. layout ≡ node kind (dtype_view dtype) row_count (numbers_of (option_to_list segment)) (layouts_of children.items)) }
+        children: Arc<Vec<Layout>, Global>,
+    ) -> Layout
+        requires { Fits kind (dtype_view dtype) row_count (numbers_of (option_to_list segment)) (arc_value children).items }
+        ensures { result ≡ node kind (dtype_view dtype) row_count (numbers_of (option_to_list segment)) (layouts_of (arc_value children).items) }
     {
-        let children = Arc::new(alloc, children)?;
-        Ok(Layout {
+        Layout {
             dtype,
             row_count,
             children,
             segment,
             kind,
-        })
+        }
     }
 
     /// The layout of rows of any type in one segment.
@@ -88,14 +102,8 @@ impl Layout {
     ) -> Result<Layout, AllocError>
         ensures { IfOk result (λ layout. layout ≡ node LayoutKind.Flat (dtype_view dtype) row_count (segment.0 ∷ []) no_layouts) }
     {
-        Layout::made(
-            alloc,
-            LayoutKind::Flat,
-            dtype,
-            row_count,
-            Some(segment),
-            Vec::new(alloc),
-        )
+        let children = Arc::new(alloc, Vec::new(alloc))?;
+        Ok(Layout::made(LayoutKind::Flat, dtype, row_count, Some(segment), children))
     }
 
     /// The layout of the rows of its children, one behind the other. Each has this type.
@@ -105,7 +113,8 @@ impl Layout {
         ensures { IfOk result (λ layout. layout ≡ node LayoutKind.Chunked (dtype_view dtype) (rows_sum children.items) [] (layouts_of children.items)) }
     {
         let rows = sum_of(&children);
-        Layout::made(alloc, LayoutKind::Chunked, dtype, rows, None, children)
+        let children = Arc::new(alloc, children)?;
+        Ok(Layout::made(LayoutKind::Chunked, dtype, rows, None, children))
     }
 
     /// The layout of the rows of a struct, by its fields.
@@ -118,7 +127,8 @@ impl Layout {
         requires { Fits LayoutKind.Struct (dtype_view dtype) row_count [] children.items }
         ensures { IfOk result (λ layout. layout ≡ node LayoutKind.Struct (dtype_view dtype) row_count [] (layouts_of children.items)) }
     {
-        Layout::made(alloc, LayoutKind::Struct, dtype, row_count, None, children)
+        let children = Arc::new(alloc, children)?;
+        Ok(Layout::made(LayoutKind::Struct, dtype, row_count, None, children))
     }
 
     /// How the rows are kept.

@@ -1,5 +1,6 @@
 //! Reads a layout from its table.
-ghost use Rattle.std.specs.Prelude.{◌≡◌, IfOk, map, string_bytes, Some};
+ghost use Rattle.std.specs.Arc.{arc_value};
+ghost use Rattle.std.specs.Prelude.{◌≡◌, [], IfOk, map, string_bytes, Some};
 ghost use Rattle.std.specs.Option.{option_map};
 ghost use Rattle.vx_base.specs.Checks.{Gives};
 ghost use Rattle.vx_data.specs.Refusing.{Fails};
@@ -12,16 +13,19 @@ use crate::layout_shape::{dtypes_for, shaped};
 use crate::layout_walk::read_layout;
 use crate::{DType, DataError, Layout, LayoutKind};
 use std::alloc::{AllocError, Global};
+use std::sync::Arc;
 use vx_tables::WalkError;
 
-/// The layouts of these rows and types, where each fits.
+/// The layouts of these rows and types, where each fits. All that have no children share these that are none.
 #[cycle(fitting)]
 fn fit_all(
     alloc: Global,
     kinds: &[Option<LayoutKind>],
     rows: &[LayoutRow],
     dtypes: &[DType],
+    none: &Arc<Vec<Layout>, Global>,
 ) -> Result<Option<Vec<Layout>>, AllocError>
+    requires { (arc_value none.now).items ≡ [] }
     ensures { IfOk result (λ layouts. option_map (λ v. v.items) layouts
         ≡ fit_rows kinds.now (rows_list (map row_view rows.now)) (Some (map dtype_view dtypes.now))) }
 {
@@ -31,7 +35,7 @@ fn fit_all(
     let mut layouts = Vec::with_capacity(alloc, rows.len())?;
     for at in 0..rows.len() {
         let dtype = dtypes[at].share(alloc)?;
-        let Some(layout) = fit(alloc, kinds, &rows[at], dtype)? else {
+        let Some(layout) = fit(alloc, kinds, &rows[at], dtype, none)? else {
             return Ok(None);
         };
         layouts.push(layout)?;
@@ -46,12 +50,14 @@ fn fit_each(
     kinds: &[Option<LayoutKind>],
     rows: &[LayoutRow],
     dtypes: Option<Vec<DType>>,
+    none: &Arc<Vec<Layout>, Global>,
 ) -> Result<Option<Vec<Layout>>, AllocError>
+    requires { (arc_value none.now).items ≡ [] }
     ensures { IfOk result (λ layouts. option_map (λ v. v.items) layouts
         ≡ fit_rows kinds.now (rows_list (map row_view rows.now)) (option_map (λ v. map dtype_view v.items) dtypes)) }
 {
     match dtypes {
-        Some(dtypes) => fit_all(alloc, kinds, rows, &dtypes),
+        Some(dtypes) => fit_all(alloc, kinds, rows, &dtypes, none),
         None => Ok(None),
     }
 }
@@ -63,12 +69,14 @@ fn fit(
     kinds: &[Option<LayoutKind>],
     row: &LayoutRow,
     dtype: DType,
+    none: &Arc<Vec<Layout>, Global>,
 ) -> Result<Option<Layout>, AllocError>
+    requires { (arc_value none.now).items ≡ [] }
     ensures { IfOk result (λ layout. layout ≡ fit_row kinds.now (row_view row.now) (dtype_view dtype)) }
 {
     let kind = kind_at(kinds, row.encoding);
     let dtypes = dtypes_for(alloc, kind, &dtype, row.children.len())?;
-    let children = fit_each(alloc, kinds, &row.children, dtypes)?;
+    let children = fit_each(alloc, kinds, &row.children, dtypes, none)?;
     let layout = shaped(
         alloc,
         kind,
@@ -76,6 +84,7 @@ fn fit(
         row.row_count,
         row.segments.as_slice(),
         children,
+        none,
     )?;
     Ok(layout)
 }
@@ -101,7 +110,8 @@ impl Layout {
         if !is_known(&kinds, &row) {
             return Err(DataError::UnknownEncoding);
         }
-        match fit(alloc, &kinds, &row, dtype.share(alloc)?)? {
+        let none = Arc::new(alloc, Vec::new(alloc))?;
+        match fit(alloc, &kinds, &row, dtype.share(alloc)?, &none)? {
             Some(layout) => Ok(layout),
             None => Err(DataError::BadTable),
         }

@@ -1,13 +1,16 @@
 //! What the children of a layout must be.
-ghost use Rattle.std.specs.Prelude.{◌≡◌, ◌==◌, ◌≤◌, ◌++◌, IfOk, OnOk, List, ℕ, length, map, Some, replicate};
+ghost use Rattle.std.specs.Arc.{arc_value};
+ghost use Rattle.std.specs.Prelude.{◌≡◌, ◌==◌, ◌≤◌, ◌++◌, [], IfOk, OnOk, List, ℕ, length, map, Some, replicate};
 ghost use Rattle.std.specs.List.{list_all};
 ghost use Rattle.std.specs.Option.{option_map, option_to_list};
 ghost use Rattle.vx_data.specs.Dtype.{dtype_view, pairs_view};
 ghost use Rattle.vx_data.specs.Layout.{LayoutTree, numbers_of, dtype_of, rows_of, rows_sum, dtypes_of, validity as validity_of, child_dtypes, has_shape as shape_holds};
 ghost use Rattle.vx_data.specs.LayoutTable.{dtypes_for as dtypes_by, shaped as shaped_by};
 
+use crate::layout::held;
 use crate::{DType, Layout, LayoutKind};
 use std::alloc::{AllocError, Global};
+use std::sync::Arc;
 use vx_base::SegmentId;
 
 /// The same type so many times.
@@ -121,7 +124,8 @@ fn only_of(segments: &[SegmentId]) -> Option<SegmentId>
     }
 }
 
-/// The layout of these parts, where it has the rows and segments of its kind.
+/// The layout of these parts, where it has the rows and segments of its kind. Where it has no children, it shares these
+/// that are none.
 #[tactic(auto, using(crate::proofs::Shapes::few_segments))]
 pub(crate) fn shaped(
     alloc: Global,
@@ -130,8 +134,10 @@ pub(crate) fn shaped(
     row_count: u64,
     segments: &[SegmentId],
     children: Option<Vec<Layout>>,
+    none: &Arc<Vec<Layout>, Global>,
 ) -> Result<Option<Layout>, AllocError>
-    requires { (k : LayoutKind) (ts : List LayoutTree) → kind ≡ Some k → option_map (λ v. v.items) children ≡ Some ts →
+    requires none { (arc_value none.now).items ≡ [] }
+    requires fit { (k : LayoutKind) (ts : List LayoutTree) → kind ≡ Some k → option_map (λ v. v.items) children ≡ Some ts →
         child_dtypes k (dtype_view dtype) (length ts) ≡ Some (map dtype_of ts) }
     ensures { IfOk result (λ layout. layout
         ≡ shaped_by kind (dtype_view dtype) row_count (numbers_of segments.now) (option_map (λ v. v.items) children)) }
@@ -146,6 +152,6 @@ pub(crate) fn shaped(
         return Ok(None);
     }
     let segment = only_of(segments);
-    let layout = Layout::made(alloc, kind, dtype, row_count, segment, children)?;
-    Ok(Some(layout))
+    let children = held(alloc, none, children)?;
+    Ok(Some(Layout::made(kind, dtype, row_count, segment, children)))
 }

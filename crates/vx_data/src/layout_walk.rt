@@ -1,5 +1,6 @@
 //! Reads the table of a layout, as it stands.
-ghost use Rattle.std.specs.Prelude.{◌≡◌, suc, map};
+ghost use Rattle.std.specs.Prelude.{◌≡◌, ◌∷◌, [], suc, map, IfOk, IfSome};
+ghost use Rattle.vx_tables.specs.Field.{numbers_in, numbers_of_vector};
 ghost use Rattle.vx_tables.specs.Counted.{within, allowed, each_table};
 ghost use Rattle.vx_tables.specs.Walking.{Walks, Reads};
 ghost use Rattle.vx_data.specs.Layout.{numbers_of};
@@ -8,7 +9,35 @@ ghost use Rattle.vx_data.specs.LayoutTable.{ids_in, row_view, row_from, row_at, 
 use crate::layout_row::LayoutRow;
 use crate::segment_ids::SegmentIds;
 use std::alloc::{AllocError, Global};
+use vx_base::SegmentId;
 use vx_tables::{Elements, TableReader, VectorReader, Visits, WalkError};
+
+/// For how many layouts room is taken before they are read.
+const MOST_AHEAD: usize = 1 << 18;
+
+/// The number that bytes are, where there are as many as one number has.
+fn only_number(bytes: &[u8]) -> Option<u32>
+    ensures { IfSome result (λ n. numbers_in 1 bytes.now ≡ n ∷ []) }
+{
+    match bytes {
+        [a, b, c, d] => Some(u32::from_le_bytes([*a, *b, *c, *d])),
+        _ => None,
+    }
+}
+
+/// The segments that the numbers of a vector are. Only memory refuses.
+fn segments_of(alloc: Global, vector: &VectorReader<'_>) -> Result<SegmentIds, AllocError>
+    requires { vector.now.elements ≡ Elements.Numbers 4 }
+    ensures { IfOk result (λ ids. numbers_of (ids_in ids) ≡ numbers_of_vector vector.now.bytes vector.now.vector) }
+{
+    if vector.len() == 1 {
+        if let Some(number) = only_number(vector.as_bytes()) {
+            return Ok(SegmentIds::One(SegmentId(number)));
+        }
+    }
+    let numbers = vector.numbers(alloc)?;
+    SegmentIds::of(alloc, &numbers)
+}
 
 /// The segments that a layout names.
 #[tactic(auto, using(vx_tables::proofs::Walk::seen_steps), unfolding(crate::specs::LayoutTable::segments_in))]
@@ -20,10 +49,7 @@ fn read_segments(
     ensures { Walks (λ ids. numbers_of (ids_in ids)) result visits.new (within table.now.levels visits.old (segments_in table.now.bytes table.now.table)) }
 {
     match table.field_vector(4, Elements::Numbers(4), visits)? {
-        Some(vector) => {
-            let numbers = vector.numbers(alloc)?;
-            Ok(SegmentIds::of(alloc, &numbers)?)
-        }
+        Some(vector) => Ok(segments_of(alloc, &vector)?),
         None => Ok(SegmentIds::Listed(Vec::new(alloc))),
     }
 }
@@ -62,7 +88,7 @@ fn read_elements(
     ensures { Walks (λ rows. map row_view rows.items) result visits.new
         (within vector.now.levels visits.old (each_table vector.now.bytes (row_at specs vector.now.levels vector.now.bytes) vector.now.vector)) }
 {
-    let mut rows = Vec::new(alloc);
+    let mut rows = Vec::with_capacity(alloc, vector.len().min(MOST_AHEAD))?;
     for at in 0..vector.len() {
         let table = vector.table_at(at, visits)?;
         let row = read_in(alloc, specs, &table, visits)?;

@@ -4,9 +4,12 @@ use Rattle.vx_data.proofs.Fitting.{asked_fit, fit_is, uneven}
 use Rattle.vx_data.proofs.layout_reading.+fitting.Goals as goal
 
 pub fit-shaped-requires : goal.fit-shaped-requires
-fit-shaped-requires t c = λ k ts is some.
+fit-shaped-requires t c =
     let as_many : c.len.result ≡ length c.deref.result.now = cc in
-    asked_fit _ _ _ _ _ _ _ k ts as_many c.in_ok-dtypes.ensures c.in_ok-children.ensures is some
+    record {
+      none = c.requires;
+      fit = λ k ts is some. asked_fit _ _ _ _ _ _ _ k ts as_many c.in_ok-dtypes.ensures c.in_ok-children.ensures is some;
+    }
 
 pub fit-returns : goal.fit-returns
 fit-returns t c =
