@@ -1,18 +1,16 @@
 -- What holds of parts of columns, and of columns behind one another.
-use Rattle.std.proofs.Common.{◌≡◌, ℕ, ℤ, zero, suc, ◌+◌, ◌-◌, ◌<◌, ◌≤◌, Bool, true, false, List, [], ◌∷◌, ◌++◌, length, take, drop, map, Option, Some, None, is_some, refl, ap, sym, ◌∙◌, subst, arith, length-append, append_assoc}
+use Rattle.std.proofs.Common.{◌≡◌, ℕ, ℤ, zero, suc, ◌+◌, ◌-◌, ◌≤◌, Bool, true, false, List, [], ◌∷◌, ◌++◌, length, take, drop, Option, is_some, refl, ap, sym, ◌∙◌, subst, arith, length-append}
 use Rattle.std.specs.Prelude.{slice_range, ◌||◌, ◌&&◌, IfSome}
-use Rattle.std.specs.List.{All, list_all}
+use Rattle.std.specs.List.{list_all}
 use Rattle.std.specs.Str.{IsUtf8}
 use Rattle.std.proofs.lemmas.List.{length-drop, length-take-le, take_all, drop_all, drop-take, take-append-drop}
 use Rattle.std.proofs.Math.Seq.{take-append_seam}
 use Rattle.std.proofs.lemmas.Bool.{false≢true}
 use Rattle.std.proofs.lemmas.List.Elements.{All-take, All-drop, All-append}
 use Rattle.vx_data.specs.declared.ptype.PType.{PType}
-use Rattle.vx_data.specs.Dtype.{Dtype, FieldList, bool, int, text, struct, no_fields, field}
-use Rattle.vx_rows.specs.Columns.{Bools, Ints, Texts, Structs, may_hold, are_there}
+use Rattle.vx_data.specs.Dtype.{Dtype, FieldList, bool, int, text, struct, field}
 use Rattle.vx_rows.specs.Written.{is_within}
-use Rattle.vx_rows.specs.Rows.{Rows, FieldRows, bools, ints, texts, structs, no_columns, column, rows_len, dtype_of, types_of, HasRows, AllHaveRows, IsColumn, AreColumns, AreWithin, AreUtf8}
-use Rattle.vx_rows.specs.ReadRows.{no_rows, no_rows_each}
+use Rattle.vx_rows.specs.Rows.{Rows, FieldRows, bools, ints, texts, structs, no_columns, column, rows_len, dtype_of, types_of, HasRows, AllHaveRows, IsColumn, AreColumns, AreWithin}
 use Rattle.vx_rows.specs.Parts.{part, field_parts, appended, fields_appended}
 
 -- ---- parts of equal types
@@ -282,7 +280,7 @@ take-twice (suc m) zero xs h = absurd (omega (arith, h))
 take-twice (suc m) (suc k) [] h = refl
 take-twice (suc m) (suc k) (x ∷ xs) h = ap (λ ys. x ∷ ys) (take-twice m k xs (omega (arith, h)))
 
-part-of-part : {A : Type 0} → (xs : List A) (a b from to : ℕ) → from ≤ to → to ≤ b - a → slice_range (slice_range xs a b) from to ≡ slice_range xs (a + from) (a + to)
+pub part-of-part : {A : Type 0} → (xs : List A) (a b from to : ℕ) → from ≤ to → to ≤ b - a → slice_range (slice_range xs a b) from to ≡ slice_range xs (a + from) (a + to)
 part-of-part xs a b from to o h =
     let e : to - from ≡ a + to - (a + from) = omega (arith, o) in
     let size : b - a ≡ from + (b - a - from) = omega (arith, o, h) in

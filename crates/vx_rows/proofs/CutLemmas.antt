@@ -1,5 +1,5 @@
 -- Parts of runs of values, and so of columns.
-use Rattle.std.proofs.Common.{◌≡◌, ℕ, ℤ, zero, suc, ◌+◌, ◌-◌, ◌*◌, ◌<◌, ◌≤◌, Bool, true, false, cond, List, [], ◌∷◌, ◌++◌, length, take, drop, min, Option, Some, None, refl, ap, sym, ◌∙◌, subst, arith, ◌⊎◌, inl, inr}
+use Rattle.std.proofs.Common.{◌≡◌, ℕ, zero, suc, ◌+◌, ◌-◌, ◌*◌, ◌<◌, ◌≤◌, Bool, true, cond, List, ◌∷◌, length, take, drop, min, Option, Some, None, refl, ap, sym, ◌∙◌, subst, arith, ◌⊎◌, inl, inr}
 use Rattle.std.specs.Prelude.{slice_index, slice_index_or, slice_range, ◌||◌, ◌==◌, not, IfSome}
 use Rattle.std.specs.Option.{option_map}
 use Rattle.std.specs.Str.{IsUtf8}
@@ -10,7 +10,7 @@ use Rattle.vx_data.specs.declared.ptype.PType.{PType}
 use Rattle.vx_rows.specs.Span.{span, every}
 use Rattle.vx_rows.specs.Bits.{bit, present_at}
 use Rattle.vx_rows.specs.Columns.{Ints, Texts, Structs, bool_row, is_false_row, int_row, is_clear, raw_at, value_of, value_size, value_place, text_row, AreRanges, AreTexts}
-use Rattle.vx_rows.proofs.SpanLemmas.{length_span, span_same, every_all, every_holds}
+use Rattle.vx_rows.proofs.SpanLemmas.{length_span, every_all, every_holds}
 
 -- ---- runs
 

@@ -1,17 +1,16 @@
 -- The least and the greatest of rows, gathered row by row and column by column.
-use Rattle.std.proofs.Common.{◌≡◌, ℕ, ℤ, zero, suc, ◌+◌, ◌-◌, ◌<◌, ◌≤◌, Bool, true, false, cond, List, [], ◌∷◌, ◌++◌, length, map, take, drop, Option, Some, None, is_some, refl, ap, sym, ◌∙◌, subst, arith, ◌⊎◌, inl, inr}
-use Rattle.std.specs.Prelude.{slice_index_or, not, count_by}
+use Rattle.std.proofs.Common.{◌≡◌, ℕ, zero, suc, ◌+◌, ◌<◌, ◌≤◌, Bool, true, false, cond, List, [], ◌∷◌, ◌++◌, length, map, drop, Option, Some, None, is_some, refl, ap, sym, ◌∙◌, arith}
+use Rattle.std.specs.Prelude.{slice_index_or, not}
 use Rattle.std.specs.Option.{option_map}
 use Rattle.std.specs.declared.cmp.Ordering.{Ordering}
 use Rattle.std.specs.declared.cmp.Ordering.TheVariants.{Less, Equal, Greater}
-use Rattle.std.specs.Ordering.{bool_cmp, int_cmp, nat_cmp, is_lt, flip_args, ordering_reverse}
+use Rattle.std.specs.Ordering.{bool_cmp, int_cmp, is_lt, flip_args, ordering_reverse}
 use Rattle.std.specs.Cmp.{IsTotalOrder, bool_cmp_total, int_cmp_total}
 use Rattle.std.specs.Cmp.Lexicographic.{nat_list_cmp_total}
 use Rattle.std.proofs.lemmas.Bool.{false≢true}
 use Rattle.vx_data.specs.Scalar.{Value, flag, number, words}
-use Rattle.vx_data.specs.Dtype.{Dtype, FieldList, bool, int, text, struct, no_fields, field}
-use Rattle.vx_rows.specs.Columns.{Bools, Ints, Texts, Structs}
-use Rattle.vx_rows.specs.Rows.{Rows, FieldRows, bools, ints, texts, structs, no_columns, column, rows_len, dtype_of}
+use Rattle.vx_data.specs.Dtype.{Dtype, bool, int, text, struct}
+use Rattle.vx_rows.specs.Rows.{Rows, bools, ints, texts, structs, rows_len, dtype_of}
 use Rattle.vx_rows.specs.ReadRows.{no_rows}
 use Rattle.vx_rows.specs.Parts.{appended}
 use Rattle.std.proofs.lemmas.List.{drop_all, map-append}

@@ -3,7 +3,6 @@ use Rattle.std.proofs.Common.{◌≡◌, ℕ, zero, suc, ◌+◌, ◌<◌, ◌�
 use Rattle.std.specs.Prelude.{String, string_bytes}
 use Rattle.std.specs.Global.{Global}
 use Rattle.std.proofs.lemmas.List.{take_more_set, take_all, drop-set-lt, drop_all}
-use Rattle.vx_data.specs.Dtype.{FieldList}
 use Rattle.vx_rows.specs.declared.builder.Builder.{Builder}
 use Rattle.vx_rows.specs.declared.column.Column.{Column}
 use Rattle.vx_rows.specs.Rows.{Rows, FieldRows, no_columns, column, column_view, viewed, pairs_view as columns_in, types_of, HasRows, AllHaveRows, AreColumns, IsColumn, dtype_of}
@@ -119,11 +118,11 @@ copy_end bs i made l = ap (λ (xs : List Field). before (viewed made) (pairs_vie
 
 -- ---- sizes
 
-pub next_builder_size : (bs : List Field) (i : ℕ) (b : Field) → i < length bs → b ≡ get_or bs i b
-    → fields_plain_size (pairs_view (drop i bs)) ≡ plain_size (builder_view b.1) + fields_plain_size (pairs_view (drop (i + 1) bs))
-next_builder_size bs i b lt is = ap (λ (xs : List Field). fields_plain_size (pairs_view xs)) (next_builder bs i b lt is)
+pub next_builder_size : (bs : List Field) (i from to : ℕ) (b : Field) → i < length bs → b ≡ get_or bs i b
+    → fields_plain_size (field_parts from to (pairs_view (drop i bs))) ≡ plain_size (part from to (builder_view b.1)) + fields_plain_size (field_parts from to (pairs_view (drop (i + 1) bs)))
+next_builder_size bs i from to b lt is = ap (λ (xs : List Field). fields_plain_size (field_parts from to (pairs_view xs))) (next_builder bs i b lt is)
 
-pub past_builder_size : (bs : List Field) (i : ℕ) → length bs ≤ i → fields_plain_size (pairs_view (drop i bs)) ≡ 0
-past_builder_size bs i l = ap (λ (xs : List Field). fields_plain_size (pairs_view xs)) (drop_all i bs l)
+pub past_builder_size : (bs : List Field) (i from to : ℕ) → length bs ≤ i → fields_plain_size (field_parts from to (pairs_view (drop i bs))) ≡ 0
+past_builder_size bs i from to l = ap (λ (xs : List Field). fields_plain_size (field_parts from to (pairs_view xs))) (drop_all i bs l)
 
 pub ruleset builder_sizes = (next_builder_size, past_builder_size)

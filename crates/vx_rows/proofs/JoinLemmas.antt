@@ -1,22 +1,21 @@
 -- Columns that grow by the rows of others, and columns that are cut back.
 use Rattle.std.proofs.Common.{◌≡◌, ℕ, ℤ, zero, suc, ◌+◌, ◌-◌, ◌*◌, ◌<◌, ◌≤◌, Bool, true, false, cond, List, [], ◌∷◌, ◌++◌, length, map, take, drop, min, Option, Some, None, is_some, refl, ap, sym, ◌∙◌, subst, arith, append_assoc, ◌⊎◌, inl, inr}
 use Rattle.std.specs.Prelude.{slice_index, slice_index_or, slice_range, ◌||◌, ◌&&◌, ◌==◌, not, IfSome}
-use Rattle.std.specs.List.{All, flat_map, list_all}
+use Rattle.std.specs.List.{flat_map, list_all}
 use Rattle.std.specs.Str.{IsUtf8}
 use Rattle.std.specs.Int.{from_le_bytes}
 use Rattle.std.proofs.lemmas.List.{append-nil, take_more, take_all, drop-take, length-take-le, get_or-take}
 use Rattle.std.proofs.lemmas.Bool.{cases_lt}
 use Rattle.std.proofs.Math.Nat.{min-eq_left, min-eq_right, mul-le-mul_left}
-use Rattle.std.proofs.Math.Seq.{take-append_seam}
 use Rattle.vx_data.specs.declared.ptype.PType.{PType}
 use Rattle.vx_rows.specs.Span.{span, every}
 use Rattle.vx_rows.specs.Bits.{present_at}
 use Rattle.vx_rows.specs.Columns.{Bools, Ints, Texts, Structs, bool_row, is_false_row, int_row, is_clear, raw_at, value_of, width, value_size, value_place, text_row, AreRanges, AreTexts, may_hold, are_there}
 use Rattle.vx_rows.specs.Rows.{AreWithin}
-use Rattle.vx_rows.specs.ReadRows.{more_bools, more_ints, more_texts}
+use Rattle.vx_rows.specs.ReadRows.{more_bools, more_texts}
 use Rattle.vx_rows.specs.Written.{is_within, cell}
 use Rattle.vx_rows.specs.Kept.{kept}
-use Rattle.vx_rows.proofs.SpanLemmas.{length_span, span_same, every_all, every_holds}
+use Rattle.vx_rows.proofs.SpanLemmas.{span_same, every_all, every_holds}
 use Rattle.vx_rows.proofs.IntLemmas.{place_inside}
 use Rattle.vx_rows.proofs.CutLemmas.{take_span}
 use Rattle.vx_rows.proofs.ColumnLaws.{take-twice}

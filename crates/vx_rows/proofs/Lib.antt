@@ -1,6 +1,7 @@
 pub mod SpanLemmas
 pub mod IntLemmas
 pub mod TextLemmas
+pub mod AsciiLemmas
 pub mod TreeLemmas
 pub mod TypedLemmas
 pub mod TypingLemmas

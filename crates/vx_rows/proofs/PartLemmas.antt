@@ -1,12 +1,12 @@
 -- Fields of a struct, one after the other: their parts, sizes, types and lengths.
-use Rattle.std.proofs.Common.{◌≡◌, ℕ, ◌+◌, ◌-◌, ◌^◌, ◌<◌, ◌≤◌, Bool, true, false, List, [], ◌∷◌, ◌++◌, length, get_or, drop, min, refl, ap, sym, ◌∙◌, subst, arith}
+use Rattle.std.proofs.Common.{◌≡◌, ℕ, ◌+◌, ◌<◌, ◌≤◌, List, [], ◌∷◌, ◌++◌, length, get_or, drop, refl, ap, sym, ◌∙◌, subst, arith}
 use Rattle.std.specs.Prelude.{String, string_bytes}
 use Rattle.std.specs.Global.{Global}
 use Rattle.std.proofs.lemmas.List.{drop_all}
 use Rattle.vx_data.specs.declared.dtype.DType.{DType}
-use Rattle.vx_data.specs.Dtype.{Dtype, FieldList, no_fields, field, dtype_view, pairs_view as types_view}
+use Rattle.vx_data.specs.Dtype.{Dtype, FieldList, field, dtype_view, pairs_view as types_view}
 use Rattle.vx_rows.specs.declared.column.Column.{Column}
-use Rattle.vx_rows.specs.Rows.{Rows, FieldRows, column, no_columns, column_view, viewed, pairs_view, dtype_of, types_of, IsColumn, AreColumns}
+use Rattle.vx_rows.specs.Rows.{Rows, column, column_view, viewed, pairs_view, dtype_of, types_of, IsColumn, AreColumns}
 use Rattle.vx_rows.specs.Trees.{before}
 use Rattle.vx_rows.specs.Parts.{part, field_parts, plain_size, fields_plain_size}
 use Rattle.vx_rows.proofs.TreeLemmas.{added, before-none, next as next-type}

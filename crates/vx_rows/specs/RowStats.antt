@@ -1,5 +1,5 @@
 -- The statistics of rows: the least and the greatest value, and how many rows are null.
-use Rattle.std.specs.Prelude.{ℕ, ℤ, pos, Bool, true, false, if◌then◌else◌, nat_le, not, is_some}
+use Rattle.std.specs.Prelude.{ℕ, pos, Bool, true, false, if◌then◌else◌, nat_le, not, is_some}
 use Rattle.std.specs.Prelude.{List, [], ◌∷◌, length, map, count_by, Option, Some, None}
 use Rattle.std.specs.Option.{option_map}
 use Rattle.std.specs.List.{list_any}

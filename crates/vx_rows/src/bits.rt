@@ -90,7 +90,7 @@ pub fn bitmap_len(rows: usize) -> usize
 pub fn bitmap_of(alloc: Global, rows: &[bool]) -> Result<Vec<u8>, AllocError>
     ensures { IfOk result (λ bytes. bytes.items ≡ bitmap rows.now) }
 {
-    let mut bytes = Vec::new(alloc);
+    let mut bytes = Vec::with_capacity(alloc, bitmap_len(rows.len()))?;
     for k in 0..bitmap_len(rows.len()) {
         bytes.push(byte_of(rows, k))?;
     }

@@ -6,12 +6,12 @@ ghost use Rattle.vx_data.specs.declared.text_error.TextError.TheVariants.{BadTex
 ghost use Rattle.vx_data.specs.TextsRead.{FailsToRead};
 ghost use Rattle.vx_rows.specs.Columns.{Bools, may_hold};
 ghost use Rattle.vx_rows.specs.Rows.{bools};
-ghost use Rattle.vx_rows.specs.Parts.{Keeps, plain_size};
+ghost use Rattle.vx_rows.specs.Parts.{Keeps, part, plain_size};
 ghost use Rattle.vx_rows.specs.ReadValues.{optional_in, truth_in};
 ghost use Rattle.vx_rows.specs.ReadRows.{more_bools, null_or};
 
 use crate::flags::Flags;
-use crate::plain_size::size_of_bools;
+use crate::plain_size::{rows_between, size_of_bools};
 use crate::value_reading::{read_null, read_truth};
 use crate::{Bits, BoolColumn};
 use std::alloc::{AllocError, Global};
@@ -134,11 +134,15 @@ impl BoolBuilder {
         self.values.truncate(kept);
     }
 
-    /// How many bytes the rows take, written plainly.
-    pub fn plain_size(&self) -> u64
-        ensures { result ≡ min (plain_size (bools self.now)) (2 ^ 64 - 1) }
+    /// How many bytes the rows from one on, up to another, take, written plainly.
+    #[tactic(auto, using(crate::proofs::SizeLemmas::slice_len))]
+    pub fn size_between(&self, from: usize, to: usize) -> u64
+        ensures { result ≡ min (plain_size (part from to (bools self.now))) (2 ^ 64 - 1) }
     {
-        size_of_bools(self.present.is_nullable(), self.len())
+        size_of_bools(
+            self.present.is_nullable(),
+            rows_between(self.len(), from, to),
+        )
     }
 
     /// A column of the rows so far. Only memory refuses.

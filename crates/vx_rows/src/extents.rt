@@ -10,7 +10,7 @@ use crate::{BoolColumn, Column, Columns, IntColumn, Mask, StructRows, TextColumn
 use std::alloc::{AllocError, Global};
 use std::cmp::Ordering;
 use std::marker::Model;
-use vx_data::Scalar;
+use vx_data::{PType, Scalar};
 
 /// The least and the greatest value of rows, and how many rows are null.
 #[derive(Drop)]
@@ -32,6 +32,7 @@ impl Model for Extent {
 
 // ---- the lesser and the greater of two values
 
+#[inline(always)]
 fn lesser_flag(a: Option<bool>, b: Option<bool>) -> Option<bool>
     ensures { result ≡ lesser_of bool_cmp a b }
 {
@@ -41,6 +42,7 @@ fn lesser_flag(a: Option<bool>, b: Option<bool>) -> Option<bool>
     if first && !second { b } else { a }
 }
 
+#[inline(always)]
 fn greater_flag(a: Option<bool>, b: Option<bool>) -> Option<bool>
     ensures { result ≡ greater_of bool_cmp a b }
 {
@@ -50,6 +52,7 @@ fn greater_flag(a: Option<bool>, b: Option<bool>) -> Option<bool>
     if second && !first { b } else { a }
 }
 
+#[inline(always)]
 fn lesser_number(a: Option<i128>, b: Option<i128>) -> Option<i128>
     ensures { result ≡ lesser_of int_cmp a b }
 {
@@ -59,6 +62,7 @@ fn lesser_number(a: Option<i128>, b: Option<i128>) -> Option<i128>
     if second < first { b } else { a }
 }
 
+#[inline(always)]
 fn greater_number(a: Option<i128>, b: Option<i128>) -> Option<i128>
     ensures { result ≡ greater_of int_cmp a b }
 {
@@ -68,6 +72,7 @@ fn greater_number(a: Option<i128>, b: Option<i128>) -> Option<i128>
     if second > first { b } else { a }
 }
 
+#[inline(always)]
 fn lesser_text<'a>(a: Option<&'a str>, b: Option<&'a str>) -> Option<&'a str>
     ensures { option_map (λ v. v.now) result ≡ lesser_of text_cmp (option_map (λ v. v.now) a.entry) (option_map (λ v. v.now) b.entry) }
 {
@@ -77,6 +82,7 @@ fn lesser_text<'a>(a: Option<&'a str>, b: Option<&'a str>) -> Option<&'a str>
     if second.cmp(first).is_lt() { b } else { a }
 }
 
+#[inline(always)]
 fn greater_text<'a>(a: Option<&'a str>, b: Option<&'a str>) -> Option<&'a str>
     ensures { option_map (λ v. v.now) result ≡ greater_of text_cmp (option_map (λ v. v.now) a.entry) (option_map (λ v. v.now) b.entry) }
 {
@@ -135,6 +141,7 @@ pub fn greater(a: Option<Scalar>, b: Option<Scalar>) -> Option<Scalar>
 // ---- the rows of a column
 
 /// 1 for a row that is null.
+#[inline(always)]
 fn null_of<T: Copy>(row: Option<T>) -> u64
     ensures { result ≡ (if not (is_some row) then 1 else 0) }
 {
@@ -168,6 +175,7 @@ fn as_number(value: Option<i128>) -> Option<Scalar>
     }
 }
 
+#[inline(always)]
 #[tactic(auto, using(crate::proofs::ExtentLemmas::masked_at))]
 fn flag_at(column: &BoolColumn, present: &Mask, row: usize) -> Option<bool>
     requires long { length present.now ≡ length column.now.rows }
@@ -181,19 +189,22 @@ fn flag_at(column: &BoolColumn, present: &Mask, row: usize) -> Option<bool>
     }
 }
 
+#[inline(always)]
 #[tactic(auto, using(crate::proofs::ExtentLemmas::masked_at))]
-fn number_at(column: &IntColumn, present: &Mask, row: usize) -> Option<i128>
+fn number_at(ptype: PType, column: &IntColumn, present: &Mask, row: usize) -> Option<i128>
+    requires typed { column.now.ptype ≡ ptype }
     requires long { length present.now ≡ length column.now.rows }
     requires inside { row < length column.now.rows }
     ensures { result ≡ slice_index_or (masked present.now column.now.rows) row None }
 {
     if present.get(row) {
-        column.get(row)
+        column.get_of(ptype, row)
     } else {
         None
     }
 }
 
+#[inline(always)]
 #[tactic(auto, using(crate::proofs::ExtentLemmas::masked_at))]
 fn text_at<'a>(column: &'a TextColumn, present: &Mask, row: usize) -> Option<&'a str>
     requires long { length present.now ≡ length column.now.rows }
@@ -240,16 +251,18 @@ fn extent_of_flags(column: &BoolColumn, present: &Mask) -> Extent
     }
 }
 
-/// Integers.
-fn extent_of_numbers(column: &IntColumn, present: &Mask) -> Extent
-    requires { length present.now ≡ length column.now.rows }
+/// Integers of a type. Each call is compiled for its type.
+#[inline(always)]
+fn extent_of_kind(ptype: PType, column: &IntColumn, present: &Mask) -> Extent
+    requires typed { column.now.ptype ≡ ptype }
+    requires long { length present.now ≡ length column.now.rows }
     ensures { result ≡ summary present.now (ints column.now) }
 {
     let mut min = None;
     let mut max = None;
     let mut nulls = 0;
     for row in 0..column.len() {
-        let value = number_at(column, present, row);
+        let value = number_at(ptype, column, present, row);
         min = lesser_number(min, value);
         max = greater_number(max, value);
         nulls += null_of(value);
@@ -258,6 +271,23 @@ fn extent_of_numbers(column: &IntColumn, present: &Mask) -> Extent
         min: as_number(min),
         max: as_number(max),
         nulls,
+    }
+}
+
+/// Integers.
+fn extent_of_numbers(column: &IntColumn, present: &Mask) -> Extent
+    requires { length present.now ≡ length column.now.rows }
+    ensures { result ≡ summary present.now (ints column.now) }
+{
+    match column.ptype() {
+        PType::U8 => extent_of_kind(PType::U8, column, present),
+        PType::U16 => extent_of_kind(PType::U16, column, present),
+        PType::U32 => extent_of_kind(PType::U32, column, present),
+        PType::U64 => extent_of_kind(PType::U64, column, present),
+        PType::I8 => extent_of_kind(PType::I8, column, present),
+        PType::I16 => extent_of_kind(PType::I16, column, present),
+        PType::I32 => extent_of_kind(PType::I32, column, present),
+        PType::I64 => extent_of_kind(PType::I64, column, present),
     }
 }
 

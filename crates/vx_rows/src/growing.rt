@@ -9,7 +9,7 @@ ghost use Rattle.vx_rows.specs.Parts.{part, field_parts, Keeps, FieldsKeep, appe
 
 use crate::builder::{Builder, Builders, begin, finish};
 use crate::flags::Flags;
-use crate::plain_size::size_of_structs;
+use crate::plain_size::{rows_between, size_of_structs};
 use crate::{Column, Columns, StructRows};
 use std::alloc::{AllocError, Global};
 use std::marker::Model;
@@ -158,38 +158,41 @@ fn append_whole(alloc: Global, builder: &mut Builder, column: &Column) -> Result
     }
 }
 
-/// The sum of the sizes of fields.
+/// The sum of the sizes of a part of each field.
 #[cycle(weighing)]
 #[tactic(auto, using(crate::proofs::FieldGrowLemmas::builder_sizes))]
-fn size_of_all(builders: &[(String, Builder)]) -> u64
-    ensures { result ≡ min (fields_plain_size (pairs_view builders.now)) (2 ^ 64 - 1) }
+fn size_of_all(builders: &[(String, Builder)], from: usize, to: usize) -> u64
+    ensures { result ≡ min (fields_plain_size (field_parts from to (pairs_view builders.now))) (2 ^ 64 - 1) }
 {
     let mut size: u64 = 0;
     for at in 0..builders.len() {
-        size = size.saturating_add(size_of(&builders[at].1));
+        size = size.saturating_add(size_between(&builders[at].1, from, to));
     }
     size
 }
 
-/// The sum of the sizes of the fields of structs.
+/// The sum of the sizes of a part of each field of structs.
 #[cycle(weighing)]
-fn size_of_fields(builders: &Builders) -> u64
-    ensures { result ≡ min (fields_plain_size (builders_view builders.now)) (2 ^ 64 - 1) }
+fn size_of_fields(builders: &Builders, from: usize, to: usize) -> u64
+    ensures { result ≡ min (fields_plain_size (field_parts from to (builders_view builders.now))) (2 ^ 64 - 1) }
 {
-    size_of_all(&builders.builders)
+    size_of_all(&builders.builders, from, to)
 }
 
-/// How many bytes the rows take, written plainly.
+/// How many bytes the rows from one on, up to another, take, written plainly.
 #[cycle(weighing)]
-fn size_of(builder: &Builder) -> u64
-    ensures { result ≡ min (plain_size (builder_view builder.now)) (2 ^ 64 - 1) }
+#[tactic(auto, using(crate::proofs::SizeLemmas::slice_len))]
+fn size_between(builder: &Builder, from: usize, to: usize) -> u64
+    ensures { result ≡ min (plain_size (part from to (builder_view builder.now))) (2 ^ 64 - 1) }
 {
     match builder {
-        Builder::Bool(rows) => rows.plain_size(),
-        Builder::Int(rows) => rows.plain_size(),
-        Builder::Text(rows) => rows.plain_size(),
+        Builder::Bool(rows) => rows.size_between(from, to),
+        Builder::Int(rows) => rows.size_between(from, to),
+        Builder::Text(rows) => rows.size_between(from, to),
         Builder::Struct(rows, builders) => {
-            size_of_structs(rows.is_nullable(), rows.len(), size_of_fields(builders))
+            let count = rows_between(rows.len(), from, to);
+            let fields = size_of_fields(builders, from, to);
+            size_of_structs(rows.is_nullable(), count, fields)
         }
     }
 }
@@ -307,7 +310,15 @@ impl GrowingColumn {
     pub fn plain_size(&self) -> u64
         ensures { result ≡ min (plain_size self.now) (2 ^ 64 - 1) }
     {
-        size_of(&self.builder)
+        size_between(&self.builder, 0, self.len())
+    }
+
+    /// How many bytes the rows from one on take, written plainly; 2^64 - 1 where they are more.
+    pub fn plain_size_from(&self, from: usize) -> u64
+        requires { from ≤ rows_len self.now }
+        ensures { result ≡ min (plain_size (part from (rows_len self.now) self.now)) (2 ^ 64 - 1) }
+    {
+        size_between(&self.builder, from, self.len())
     }
 
     /// A column of the rows so far. Only memory refuses.

@@ -7,7 +7,7 @@ ghost use Rattle.vx_data.specs.TextsRead.{FailsToRead};
 ghost use Rattle.vx_rows.specs.Written.{is_within};
 ghost use Rattle.vx_rows.specs.Columns.{Ints, may_hold};
 ghost use Rattle.vx_rows.specs.Rows.{ints, AreWithin};
-ghost use Rattle.vx_rows.specs.Parts.{Keeps, plain_size};
+ghost use Rattle.vx_rows.specs.Parts.{Keeps, part, plain_size};
 ghost use Rattle.vx_rows.specs.ReadValues.{optional_in, number_in};
 ghost use Rattle.vx_rows.specs.ReadRows.{more_ints, null_or};
 
@@ -15,7 +15,7 @@ use crate::IntColumn;
 use crate::cells::push_cell;
 use crate::flags::Flags;
 use crate::int_column::place_of;
-use crate::plain_size::size_of_ints;
+use crate::plain_size::{rows_between, size_of_ints};
 use crate::value_reading::{read_null, read_number};
 use std::alloc::{AllocError, Global};
 use std::marker::Model;
@@ -166,11 +166,13 @@ impl IntBuilder {
         self.bytes.truncate(place_of(self.kind, 0, kept));
     }
 
-    /// How many bytes the rows take, written plainly.
-    pub fn plain_size(&self) -> u64
-        ensures { result ≡ min (plain_size (ints self.now)) (2 ^ 64 - 1) }
+    /// How many bytes the rows from one on, up to another, take, written plainly.
+    #[tactic(auto, using(crate::proofs::SizeLemmas::slice_len))]
+    pub fn size_between(&self, from: usize, to: usize) -> u64
+        ensures { result ≡ min (plain_size (part from to (ints self.now))) (2 ^ 64 - 1) }
     {
-        size_of_ints(self.kind, self.present.is_nullable(), self.len())
+        let rows = rows_between(self.len(), from, to);
+        size_of_ints(self.kind, self.present.is_nullable(), rows)
     }
 
     /// A column of the rows so far. Only memory refuses.

@@ -286,23 +286,25 @@ impl IntColumn {
         has_value(&self.present, row)
     }
 
-    /// The value of a row that has one.
+    /// The value of a row that has one, of integers of a type. A call with a constant is compiled for that type.
     #[inline(always)]
     #[tactic(auto, using(crate::proofs::SpanLemmas::length_span, crate::proofs::SpanLemmas::get_or_span, crate::proofs::IntLemmas::place_inside))]
-    pub fn int_at(&self, row: usize) -> i128
+    fn int_of(&self, ptype: PType, row: usize) -> i128
+        requires typed { self.now.ptype ≡ ptype }
         requires inside { row < length self.now.rows }
         requires here { is_some (slice_index_or self.now.rows row None) ≡ true }
         ensures { slice_index_or self.now.rows row None ≡ Some result }
     {
         let bytes = self.held.as_slice();
-        let place = place_of(self.kind, self.at, row);
-        value_at(self.kind, bytes, place)
+        let place = place_of(ptype, self.at, row);
+        value_at(ptype, bytes, place)
     }
 
-    /// The value of a row, if there is such a row and it has one.
+    /// The value of a row of integers of a type, if there is such a row and it has one.
     #[inline(always)]
     #[tactic(auto, using(crate::proofs::WrittenLemmas::row_values))]
-    pub fn get(&self, row: usize) -> Option<i128>
+    pub(crate) fn get_of(&self, ptype: PType, row: usize) -> Option<i128>
+        requires { self.now.ptype ≡ ptype }
         ensures { result ≡ slice_index_or self.now.rows row None }
     {
         if row >= self.len() {
@@ -311,7 +313,25 @@ impl IntColumn {
         if !self.is_present(row) {
             return None;
         }
-        Some(self.int_at(row))
+        Some(self.int_of(ptype, row))
+    }
+
+    /// The value of a row that has one.
+    #[inline(always)]
+    pub fn int_at(&self, row: usize) -> i128
+        requires inside { row < length self.now.rows }
+        requires here { is_some (slice_index_or self.now.rows row None) ≡ true }
+        ensures { slice_index_or self.now.rows row None ≡ Some result }
+    {
+        self.int_of(self.kind, row)
+    }
+
+    /// The value of a row, if there is such a row and it has one.
+    #[inline(always)]
+    pub fn get(&self, row: usize) -> Option<i128>
+        ensures { result ≡ slice_index_or self.now.rows row None }
+    {
+        self.get_of(self.kind, row)
     }
 
     /// Adds the bytes of the rows.

@@ -44,7 +44,7 @@ pub fn flags_of(alloc: Global, present: &Option<Bits>, rows: usize) -> Result<Ve
     requires { IfSome present.now (λ bits. length bits ≡ rows) }
     ensures { IfOk result (λ flags. flags.items ≡ span (present_at present.now) 0 rows) }
 {
-    let mut flags = Vec::new(alloc);
+    let mut flags = Vec::with_capacity(alloc, rows)?;
     for row in 0..rows {
         flags.push(has_value(present, row))?;
     }

@@ -10,6 +10,13 @@ use crate::int_column::size_of;
 use crate::{Column, Columns};
 use vx_data::PType;
 
+/// How many of so many rows lie from one on, up to another.
+pub fn rows_between(rows: usize, from: usize, to: usize) -> usize
+    ensures { result ≡ min (to - from) (rows - from) }
+{
+    to.min(rows).saturating_sub(from)
+}
+
 /// How many bytes it takes to say which rows are null.
 fn size_of_nulls(nullable: bool, rows: usize) -> u64
     ensures { result ≡ nulls_size nullable rows }

@@ -1,5 +1,5 @@
 //! Columns of texts that grow row by row.
-ghost use Rattle.std.specs.Prelude.{ℕ, List, ◌≡◌, ◌-◌, ◌^◌, ◌<◌, ◌||◌, ◌++◌, ◌∷◌, [], length, min, take, sum_by, slice_index, slice_index_or, true, Some, None, if◌then◌else◌, IfOk, OnOk, OnErr};
+ghost use Rattle.std.specs.Prelude.{ℕ, List, ◌≡◌, ◌-◌, ◌^◌, ◌<◌, ◌||◌, ◌++◌, ◌∷◌, [], length, min, take, sum_by, slice_index, slice_index_or, slice_range, true, Some, None, if◌then◌else◌, IfOk, OnOk, OnErr};
 ghost use Rattle.vx_base.specs.Checks.{Gives, ◌lacking◌};
 ghost use Rattle.std.specs.Option.{option_map};
 ghost use Rattle.vx_data.specs.declared.text_error.TextError.TheVariants.{BadText};
@@ -7,13 +7,13 @@ ghost use Rattle.vx_data.specs.TextsRead.{FailsToRead, quoted_in};
 ghost use Rattle.vx_rows.specs.Columns.{Texts, may_hold};
 ghost use Rattle.vx_rows.specs.Rows.{texts};
 ghost use Rattle.vx_rows.specs.Written.{text_bytes};
-ghost use Rattle.vx_rows.specs.Parts.{Keeps, plain_size};
+ghost use Rattle.vx_rows.specs.Parts.{Keeps, part, plain_size};
 ghost use Rattle.vx_rows.specs.ReadValues.{optional_in};
 ghost use Rattle.vx_rows.specs.ReadRows.{more_texts, null_or};
 
 use crate::TextColumn;
 use crate::flags::Flags;
-use crate::plain_size::size_of_texts;
+use crate::plain_size::{rows_between, size_of_texts};
 use crate::value_reading::{read_null, read_plain};
 use std::alloc::{AllocError, Global};
 use std::marker::Model;
@@ -195,22 +195,25 @@ impl TextBuilder {
         }
     }
 
-    /// How many bytes the texts have.
-    fn bytes_len(&self) -> u64
-        ensures { result ≡ min (sum_by (λ row. length (text_bytes row)) self.now.rows) (2 ^ 64 - 1) }
+    /// How many bytes the texts of the rows from one on, up to another, have.
+    fn bytes_between(&self, from: usize, to: usize) -> u64
+        ensures { result ≡ min (sum_by (λ row. length (text_bytes row)) (slice_range self.now.rows from to)) (2 ^ 64 - 1) }
     {
         let mut size: u64 = 0;
-        for row in 0..self.len() {
+        for row in from..to.min(self.len()) {
             size = size.saturating_add(self.length_at(row) as u64);
         }
         size
     }
 
-    /// How many bytes the rows take, written plainly.
-    pub fn plain_size(&self) -> u64
-        ensures { result ≡ min (plain_size (texts self.now)) (2 ^ 64 - 1) }
+    /// How many bytes the rows from one on, up to another, take, written plainly.
+    #[tactic(auto, using(crate::proofs::SizeLemmas::slice_len))]
+    pub fn size_between(&self, from: usize, to: usize) -> u64
+        ensures { result ≡ min (plain_size (part from to (texts self.now))) (2 ^ 64 - 1) }
     {
-        size_of_texts(self.present.is_nullable(), self.len(), self.bytes_len())
+        let rows = rows_between(self.len(), from, to);
+        let bytes = self.bytes_between(from, to);
+        size_of_texts(self.present.is_nullable(), rows, bytes)
     }
 
     /// A column of the rows so far. Only memory refuses.

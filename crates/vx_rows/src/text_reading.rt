@@ -1,5 +1,5 @@
 //! Columns of texts in the bytes of a segment.
-ghost use Rattle.std.specs.Prelude.{◌≡◌, ◌+◌, ◌-◌, ◌*◌, ◌<◌, ◌≤◌, ◌^◌, length, slice_index, slice_range, IfOk, IfSome, IfNone, true};
+ghost use Rattle.std.specs.Prelude.{◌≡◌, ◌+◌, ◌-◌, ◌*◌, ◌<◌, ◌≤◌, ◌^◌, length, slice_index, slice_range, IfOk, IfSome, IfNone, IsAscii, true};
 ghost use Rattle.std.specs.Str.{is_utf8};
 ghost use Rattle.vx_base.specs.Checks.{Gives};
 ghost use Rattle.vx_data.specs.declared.ptype.PType.TheVariants.{U32};
@@ -33,7 +33,7 @@ fn places_of(
     ensures none { IfOk result (λ found. IfNone found (length bytes.now < place_at bytes.now at (value_place U32 at rows) rows)) }
 {
     let mut place = place_of(PType::U32, at, rows);
-    let mut places = Vec::new(alloc);
+    let mut places = Vec::with_capacity(alloc, rows + 1)?;
     places.push(place)?;
     for row in 0..rows {
         let size = u32_at(bytes, at + 4 * row) as usize;
@@ -57,14 +57,28 @@ fn is_text_between(bytes: &[u8], from: usize, to: usize) -> bool
     str::from_utf8(&bytes[from..to]).is_ok()
 }
 
+/// Whether the bytes of all rows together are ASCII, of which each part is a text.
+fn are_ascii(bytes: &[u8], places: &[usize], rows: usize) -> bool
+    requires long { length places.now ≡ rows + 1 }
+    ensures { result ≡ true → IsAscii (slice_range bytes.now (slice_index places.now 0) (slice_index places.now rows)) }
+{
+    match bytes.get(places[0]..places[rows]) {
+        Some(all) => all.is_ascii(),
+        None => false,
+    }
+}
+
 /// Whether the bytes of each row are a text.
-#[tactic(auto, using(crate::proofs::SpanLemmas::every_step, crate::proofs::TextLemmas::texts_are))]
+#[tactic(auto, using(crate::proofs::SpanLemmas::every_step, crate::proofs::TextLemmas::texts_are, crate::proofs::AsciiLemmas::ascii_texts))]
 fn are_texts(bytes: &[u8], places: &[usize], rows: usize) -> bool
     requires long { length places.now ≡ rows + 1 }
     requires ranges { AreRanges bytes.now places.now rows }
     ensures value { result ≡ every (is_text bytes.now places.now) 0 rows }
     ensures texts { result ≡ true → AreTexts bytes.now places.now rows }
 {
+    if are_ascii(bytes, places, rows) {
+        return true;
+    }
     for row in 0..rows {
         if !is_text_between(bytes, places[row], places[row + 1]) {
             return false;

@@ -161,10 +161,21 @@ fn becomes(alloc: Global, growing: GrowingColumn, wanted: &str) -> Result<bool, 
     prints(alloc, &column, wanted)
 }
 
-// Whether rows 1 and 2 of a text behind rows 0 to 2 are these, and take so many bytes.
-fn grows(alloc: Global, dtype: &str, text: &str, wanted: &str, size: u64) -> Result<bool, Fail> {
+// Whether a column of five rows takes so many bytes, and its last two so many.
+fn has_sizes(growing: &GrowingColumn, sizes: (u64, u64)) -> bool {
+    growing.len() == 5 && growing.plain_size() == sizes.0 && growing.plain_size_from(3) == sizes.1
+}
+
+// Whether rows 1 and 2 of a text behind rows 0 to 2 are these, and how many bytes all and the last two of them take.
+fn grows(
+    alloc: Global,
+    dtype: &str,
+    text: &str,
+    wanted: &str,
+    sizes: (u64, u64),
+) -> Result<bool, Fail> {
     let growing = made(alloc, dtype, text)?;
-    if growing.len() != 5 || growing.plain_size() != size {
+    if !has_sizes(&growing, sizes) {
         return Ok(false);
     }
     if !holds(alloc, &growing, wanted)? {
@@ -182,13 +193,21 @@ fn columns_grow(rt: HostRuntime) -> Result<(), Fail> {
             "bool?",
             "true\n~\nfalse\n",
             "true\n~\nfalse\n~\nfalse\n",
-            2
+            (2, 2)
         )?
     );
-    assert!(rt; grows(alloc, "i32", "1\n-2\n3\n", "1\n-2\n3\n-2\n3\n", 20)?);
-    assert!(rt; grows(alloc, "text?", "a\n~\nbc\n", "a\n~\nbc\n~\nbc\n", 26)?);
+    assert!(rt; grows(alloc, "i32", "1\n-2\n3\n", "1\n-2\n3\n-2\n3\n", (20, 8))?);
+    assert!(rt; grows(alloc, "text?", "a\n~\nbc\n", "a\n~\nbc\n~\nbc\n", (26, 11))?);
     let twice = "(1,x)\n~\n(2,yz)\n~\n(2,yz)\n";
-    assert!(rt; grows(alloc, "{a:u8,b:text}?", "(1,x)\n~\n(2,yz)\n", twice, 31)?);
+    assert!(rt;
+        grows(
+            alloc,
+            "{a:u8,b:text}?",
+            "(1,x)\n~\n(2,yz)\n",
+            twice,
+            (31, 13)
+        )?
+    );
     Ok(())
 }
 

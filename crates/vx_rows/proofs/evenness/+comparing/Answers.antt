@@ -1,4 +1,4 @@
-use Rattle.std.proofs.Common.{◌≡◌, ◌<◌, length, rules, arith, refl}
+use Rattle.std.proofs.Common.{◌≡◌, ◌<◌, length, rules, arith}
 use Rattle.std.specs.Prelude.{string_bytes}
 use Rattle.vx_data.specs.Dtype.{dtype_view}
 use Rattle.vx_rows.specs.Rows.{column_view, dtype_of}

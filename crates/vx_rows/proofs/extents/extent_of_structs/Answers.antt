@@ -1,5 +1,5 @@
-use Rattle.std.proofs.Common.{◌≡◌, ◌<◌, ◌≤◌, ◌∙◌, ap, cond, None, ℕ, map, length, rules, arith}
-use Rattle.vx_rows.specs.RowStats.{Summary, masked, there}
+use Rattle.std.proofs.Common.{◌<◌, ◌≤◌, ◌∙◌, ap, cond, None, ℕ, map, length, rules, arith}
+use Rattle.vx_rows.specs.RowStats.{masked, there}
 use Rattle.vx_rows.proofs.MakingLemmas.{map_long}
 use Rattle.vx_rows.proofs.ExtentLemmas.{nulls_step, nulls_done, masked_long}
 use Rattle.vx_rows.proofs.extents.extent_of_structs.Goals as goal

@@ -1,4 +1,4 @@
-use Rattle.std.proofs.Common.{Bor, List, ℕ, option_map, ◌<◌, ◌≤◌, length, rules, arith}
+use Rattle.std.proofs.Common.{◌<◌, ◌≤◌, length, rules, arith}
 use Rattle.std.specs.Cmp.Lexicographic.{nat_list_cmp_total}
 use Rattle.vx_rows.specs.RowStats.{masked, text_cmp}
 use Rattle.vx_data.specs.Scalar.{words}

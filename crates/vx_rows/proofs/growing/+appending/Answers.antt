@@ -1,8 +1,8 @@
-use Rattle.std.proofs.Common.{◌≡◌, ◌<◌, ◌≤◌, ◌+◌, ◌∙◌, ap, sym, refl, subst, length, get_or, rules, arith}
+use Rattle.std.proofs.Common.{◌≡◌, ◌<◌, ◌≤◌, ◌∙◌, ap, sym, refl, subst, length, get_or, rules, arith}
 use Rattle.std.specs.Prelude.{String}
 use Rattle.std.specs.Global.{Global}
 use Rattle.vx_rows.specs.declared.column.Column.{Column}
-use Rattle.vx_rows.specs.Rows.{column_view, pairs_view as columns_in, dtype_of, IsColumn}
+use Rattle.vx_rows.specs.Rows.{column_view, dtype_of, IsColumn}
 use Rattle.vx_rows.specs.Trees.{type_size}
 use Rattle.vx_rows.specs.Builders.{pairs_view}
 use Rattle.vx_rows.proofs.FieldGrowLemmas.{append_more, append_end, as_many_builders, builder_type, column_at, column_size}

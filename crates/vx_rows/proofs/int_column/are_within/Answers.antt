@@ -1,5 +1,4 @@
-use Rattle.std.proofs.Common.{arith, length}
-use Rattle.vx_rows.specs.Columns.{value_size, value_place}
+use Rattle.std.proofs.Common.{arith}
 use Rattle.vx_rows.proofs.SoundLemmas.{read_within}
 use Rattle.vx_rows.proofs.int_column.are_within.Goals as goal
 

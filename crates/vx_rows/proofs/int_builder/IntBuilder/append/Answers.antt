@@ -1,6 +1,6 @@
-use Rattle.std.proofs.Common.{◌≡◌, ◌∙◌, ap, sym, ◌++◌, List, Bool, ℤ, ℕ, map, is_some, rules}
+use Rattle.std.proofs.Common.{◌≡◌, ◌∙◌, ap, ◌++◌, List, Bool, map, is_some, rules}
 use Rattle.std.specs.List.{flat_map}
-use Rattle.vx_rows.specs.Columns.{Ints, Structs, may_hold}
+use Rattle.vx_rows.specs.Columns.{Ints, may_hold}
 use Rattle.vx_data.specs.declared.ptype.PType.{PType}
 use Rattle.vx_rows.specs.Written.{cell}
 use Rattle.vx_rows.proofs.JoinLemmas.{ints_joined, ints_joined_well}

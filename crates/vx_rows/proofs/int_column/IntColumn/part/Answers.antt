@@ -1,4 +1,4 @@
-use Rattle.std.proofs.Common.{◌≡◌, ◌≤◌, ◌∙◌, subst, sym, rules, arith, ◌-◌, length, Option, List, Bool, IfSome}
+use Rattle.std.proofs.Common.{◌≡◌, subst, sym, arith, ◌-◌, length, Option, List, Bool, IfSome}
 use Rattle.vx_rows.proofs.CutLemmas.{ints_seen, place_upto, present_long}
 use Rattle.vx_rows.proofs.int_column.IntColumn.part.Goals as goal
 

@@ -1,7 +1,7 @@
-use Rattle.std.proofs.Common.{◌≡◌, ◌≤◌, ◌+◌, ◌∙◌, ap, ap₂, Option, option_map, rules, arith}
+use Rattle.std.proofs.Common.{◌≡◌, ◌+◌, ◌∙◌, ap, ap₂, Option, option_map, rules, arith}
 use Rattle.vx_data.specs.declared.scalar.Scalar.{Scalar}
 use Rattle.vx_data.specs.Scalar.{scalar_view}
-use Rattle.vx_rows.specs.RowStats.{Running, Summary, lesser_of, greater_of, value_cmp, summary}
+use Rattle.vx_rows.specs.RowStats.{Running, Summary, lesser_of, greater_of, value_cmp}
 use Rattle.vx_rows.proofs.ExtentLemmas.{joined, summary_more}
 use Rattle.vx_rows.proofs.running_stats.RunningStats.merge.Goals as goal
 

@@ -1,4 +1,4 @@
-use Rattle.std.proofs.Common.{◌≡◌, ◌+◌, ◌-◌, ◌∙◌, ap, sym, rules, arith}
+use Rattle.std.proofs.Common.{◌≡◌, ◌+◌, ◌-◌, ◌∙◌, ap, rules, arith}
 use Rattle.std.specs.Prelude.{slice_index}
 use Rattle.vx_rows.proofs.CutBackLemmas.{row_inside, length_null, length_there}
 use Rattle.vx_rows.proofs.text_builder.TextBuilder.length_at.Goals as goal

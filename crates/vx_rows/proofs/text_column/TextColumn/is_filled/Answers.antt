@@ -1,4 +1,4 @@
-use Rattle.std.proofs.Common.{◌≡◌, ◌∙◌, ap, sym, [], unwrap_or}
+use Rattle.std.proofs.Common.{◌∙◌, ap, sym, [], unwrap_or}
 use Rattle.std.specs.Prelude.{◌||◌}
 use Rattle.std.specs.List.{list_all}
 use Rattle.vx_rows.specs.Columns.{Texts, may_hold}

@@ -1,4 +1,4 @@
-use Rattle.std.proofs.Common.{◌∙◌, subst, sym, ◌-◌, List, ℕ, rules}
+use Rattle.std.proofs.Common.{subst, sym, ◌-◌, List, ℕ, rules}
 use Rattle.vx_rows.specs.Columns.{AreTexts}
 use Rattle.vx_rows.proofs.CutLemmas.{texts_seen, utf8_cut}
 use Rattle.vx_rows.proofs.text_column.TextColumn.part.Goals as goal
