@@ -31,7 +31,7 @@ both_true : (a b : Bool) → (a && b) ≡ true → (a ≡ true) × (b ≡ true)
 both_true true b e = (refl, e)
 both_true false b e = absurd cc
 
-path_is : (p q : Path) → same_path p q ≡ true → p ≡ q
+pub path_is : (p q : Path) → same_path p q ≡ true → p ≡ q
 path_is [] [] e = refl
 path_is [] (b ∷ q) e = absurd cc
 path_is (a ∷ p) [] e = absurd cc
@@ -335,6 +335,29 @@ next_path paths i path q now new lt is is_now is_new =
     is_new ∙ ap₂ (λ (o : Option ℕ) (b : Bool). option_or o (if b then Some 0 else None)) is_now swap
     ∙ any_case (list_any (is_at (path_cmp q)) (take i paths)) (is_at (path_cmp q) path)
     ∙ ap (λ (b : Bool). if b then Some 0 else None) (sym any)
+
+twice : (a b : Bool) → ((a || (b || false)) || (b || false)) ≡ (a || (b || false))
+twice true b = refl
+twice false true = refl
+twice false false = refl
+
+-- a path that comes again
+pub again_path : (paths : List Path) (i : ℕ) (q : Path) (now : Option ℕ) → 1 ≤ i → i < length paths → get_or paths (i - 1) [] ≡ get_or paths i []
+    → now ≡ (if list_any (is_at (path_cmp q)) (take i paths) then Some 0 else None)
+    → now ≡ (if list_any (is_at (path_cmp q)) (take (i + 1) paths) then Some 0 else None)
+again_path paths i q now some lt same is_now =
+    let x = get_or paths i [] in
+    let step : i ≡ i - 1 + 1 = omega (arith, some) in
+    let one : take i paths ≡ take (i - 1) paths ++ x ∷ [] =
+    ap (λ (k : ℕ). take k paths) step ∙ take_more paths (i - 1) [] (omega (arith, lt)) ∙ ap (λ (y : Path). take (i - 1) paths ++ y ∷ []) same in
+    let two : take (i + 1) paths ≡ take i paths ++ x ∷ [] = take_more paths i [] lt in
+    let any_one : list_any (is_at (path_cmp q)) (take i paths) ≡ (list_any (is_at (path_cmp q)) (take (i - 1) paths) || (is_at (path_cmp q) x || false))
+    = ap (λ (xs : List Path). list_any (is_at (path_cmp q)) xs) one ∙ list_any-append (is_at (path_cmp q)) (take (i - 1) paths) (x ∷ []) in
+    let any_two : list_any (is_at (path_cmp q)) (take (i + 1) paths) ≡ (list_any (is_at (path_cmp q)) (take i paths) || (is_at (path_cmp q) x || false))
+    = ap (λ (xs : List Path). list_any (is_at (path_cmp q)) xs) two ∙ list_any-append (is_at (path_cmp q)) (take i paths) (x ∷ []) in
+    let all : list_any (is_at (path_cmp q)) (take (i + 1) paths) ≡ list_any (is_at (path_cmp q)) (take i paths) =
+    any_two ∙ ap (λ (b : Bool). b || (is_at (path_cmp q) x || false)) any_one ∙ twice (list_any (is_at (path_cmp q)) (take (i - 1) paths)) (is_at (path_cmp q) x) ∙ sym any_one in
+    is_now ∙ ap (λ (b : Bool). if b then Some 0 else None) (sym all)
 
 pub all_paths : (paths : List Path) (n : ℕ) (q : Path) (o : Option ℕ) → length paths ≤ n → o ≡ (if list_any (is_at (path_cmp q)) (take n paths) then Some 0 else None)
     → o ≡ (if list_any (is_at (path_cmp q)) paths then Some 0 else None)

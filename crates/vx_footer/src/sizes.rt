@@ -1,5 +1,5 @@
 //! How many bytes each field of a file takes.
-ghost use Rattle.std.specs.Prelude.{◌≡◌, ℕ, ◌+◌, ◌*◌, ◌<◌, ◌≤◌, ◌^◌, nat_le, [], OnOk, IfOk, IfSome, length, map, find, if◌then◌else◌, unwrap_or, Some, None};
+ghost use Rattle.std.specs.Prelude.{◌≡◌, ℕ, ◌+◌, ◌-◌, ◌*◌, ◌<◌, ◌≤◌, ◌^◌, nat_le, [], true, OnOk, IfOk, IfSome, length, map, take, drop, find, slice_index_or, if◌then◌else◌, unwrap_or, Some, None};
 ghost use Rattle.std.specs.List.{list_any};
 ghost use Rattle.std.specs.Option.{option_map, option_or};
 ghost use Rattle.std.specs.BTreeMap.{is_at};
@@ -69,30 +69,59 @@ fn add_path(
     Ok(())
 }
 
+/// Whether a path stands behind the same one, as those of chunks do.
+#[tactic(auto, using(crate::proofs::PathLemmas::path_is))]
+fn comes_again(paths: &[SharedPath], at: usize) -> bool
+    requires { at < length paths.now }
+    ensures { result ≡ true → (1 ≤ at) × (slice_index_or paths.now (at - 1) [] ≡ slice_index_or paths.now at []) }
+{
+    at > 0 && paths[at - 1].path() == paths[at].path()
+}
+
+/// Adds the path at a place behind those before it, with 0 bytes where it is not there. Paths that come again are not
+/// looked up.
+fn add_next(
+    alloc: Global,
+    sizes: &mut BTreeMap<FieldPath, u64>,
+    paths: &[SharedPath],
+    at: usize,
+) -> Result<(), AllocError>
+    requires inside { at < length paths.now }
+    requires before { (q : Path) → size_at sizes.old.entries q ≡ (if list_any (is_at (path_cmp q)) (take at paths.now) then Some 0 else None) }
+    ensures { OnOk result ((q : Path) → size_at sizes.new.entries q
+        ≡ (if list_any (is_at (path_cmp q)) (take (at + 1) paths.now) then Some 0 else None)) }
+{
+    if comes_again(paths, at) {
+        return Ok(());
+    }
+    add_path(alloc, sizes, &paths[at])?;
+    Ok(())
+}
+
 /// Each of these paths, with 0 bytes.
 fn no_sizes(alloc: Global, paths: &[SharedPath]) -> Result<BTreeMap<FieldPath, u64>, AllocError>
     ensures { IfOk result (λ sizes. (q : Path) → size_at sizes.entries q ≡ (if list_any (is_at (path_cmp q)) paths.now then Some 0 else None)) }
 {
     let mut sizes = BTreeMap::new(alloc);
-    for path in paths {
-        add_path(alloc, &mut sizes, path)?;
+    for at in 0..paths.len() {
+        add_next(alloc, &mut sizes, paths, at)?;
     }
     Ok(sizes)
 }
 
 /// Adds bytes at a path, if it is there.
-fn add_at(sizes: &mut BTreeMap<FieldPath, u64>, path: &FieldPath, bytes: u32)
+fn add_at(sizes: &mut BTreeMap<FieldPath, u64>, path: &FieldPath, bytes: u64)
     requires { IfSome (size_at sizes.old.entries path.now) (λ size. size + bytes < 2 ^ 64) }
     ensures { (q : Path) → size_at sizes.new.entries q
         ≡ option_map (λ size. size + (if is_at (path_cmp path.now) q then bytes else 0)) (size_at sizes.old.entries q) }
 {
     if let Some(size) = sizes.get_mut(path) {
-        *size += u64::from(bytes);
+        *size += bytes;
     }
 }
 
 /// Adds bytes at a path and at each one before it. No size is above `most`.
-fn add_along(sizes: &mut BTreeMap<FieldPath, u64>, path: FieldPath, bytes: u32, most: u64)
+fn add_along(sizes: &mut BTreeMap<FieldPath, u64>, path: FieldPath, bytes: u64, most: u64)
     requires room { most + bytes < 2 ^ 64 }
     requires low { (q : Path) → IfSome (size_at sizes.old.entries q) (λ size. size ≤ most) }
     ensures { (q : Path) → size_at sizes.new.entries q
@@ -113,7 +142,7 @@ fn add_length(
     alloc: Global,
     sizes: &mut BTreeMap<FieldPath, u64>,
     common: &Option<SharedPath>,
-    bytes: u32,
+    bytes: u64,
     most: u64,
 ) -> Result<(), AllocError>
     requires room { most + bytes < 2 ^ 64 }
@@ -130,6 +159,46 @@ fn add_length(
     }
 }
 
+/// Whether two segments have the same common path, or none.
+#[tactic(auto, using(crate::proofs::PathLemmas::path_is))]
+fn are_same(left: &Option<SharedPath>, right: &Option<SharedPath>) -> bool
+    ensures { result ≡ true → left.now ≡ right.now }
+{
+    match (left, right) {
+        (Some(left), Some(right)) => left.path() == right.path(),
+        (None, None) => true,
+        _ => false,
+    }
+}
+
+/// Segments one behind the other with the same common path: the place behind them, and how many bytes they have.
+#[derive(Clone, Copy)]
+struct Run {
+    end: usize,
+    bytes: u64,
+}
+
+/// The segments from one on that have its common path.
+fn run_from(commons: &[Option<SharedPath>], segments: &[SegmentSpec], from: usize) -> Run
+    requires count { length commons.now ≡ length segments.now }
+    requires room { length segments.now ≤ 2 ^ 32 }
+    requires inside { from < length segments.now }
+    ensures further { from < result.end }
+    ensures within { result.end ≤ length segments.now }
+    ensures few { result.bytes ≤ (result.end - from) * 4294967295 }
+    ensures sum { (q : Path) → length_within q (drop from commons.now) (drop from segments.now)
+        ≡ (if is_within q (slice_index_or commons.now from None) then result.bytes else 0)
+        + length_within q (drop result.end commons.now) (drop result.end segments.now) }
+{
+    let mut end = from + 1;
+    let mut bytes = u64::from(segments[from].length);
+    while end < segments.len() && are_same(&commons[from], &commons[end]) {
+        bytes += u64::from(segments[end].length);
+        end += 1;
+    }
+    Run { end, bytes }
+}
+
 /// Adds the length of each segment along its common path.
 fn add_lengths(
     alloc: Global,
@@ -143,9 +212,12 @@ fn add_lengths(
     ensures { OnOk result ((q : Path) → size_at sizes.new.entries q
         ≡ option_map (λ size. size + length_within q commons.now segments.now) (size_at sizes.old.entries q)) }
 {
-    for id in 0..segments.len() {
+    let mut id = 0;
+    while id < segments.len() {
         let most = id as u64 * u64::from(u32::MAX);
-        add_length(alloc, sizes, &commons[id], segments[id].length, most)?;
+        let run = run_from(commons, segments, id);
+        add_length(alloc, sizes, &commons[id], run.bytes, most)?;
+        id = run.end;
     }
     Ok(())
 }

@@ -9,10 +9,8 @@ use Rattle.vx_footer.proofs.sizes.add_at.Goals as goal
 pub returns-in-Some : goal.returns-in-Some
 returns-in-Some c = λ q.
     let found : size_at c.args.sizes.now.entries c.args.path.now ≡ Some c.in-Some.size.now = sym c.in-Some.ensures.value in
-    let sum : Some (c.in-Some.size.now + c.from.result) ≡ Some (c.in-Some.size.now + c.args.bytes) = ap (λ (n : ℕ). Some (c.in-Some.size.now + n)) c.from.ensures in
-    at_written c.args.sizes.now.entries (c.get_mut.follows.lender (c.in-Some.size.now + c.from.result)).entries c.args.path.now q c.args.bytes c.in-Some.size.now
-    (((c.get_mut.follows.holds (c.in-Some.size.now + c.from.result)).3 (is_there _ _ found)).0 q
-    ∙ ap (λ (o : Option ℕ). cond (is_at (path_cmp c.args.path.now) q) o (size_at c.args.sizes.now.entries q)) sum) found
+    at_written c.args.sizes.now.entries (c.get_mut.follows.lender (c.in-Some.size.now + c.args.bytes)).entries c.args.path.now q c.args.bytes c.in-Some.size.now
+    (((c.get_mut.follows.holds (c.in-Some.size.now + c.args.bytes)).3 (is_there _ _ found)).0 q) found
 
 pub returns-in_default : goal.returns-in_default
 returns-in_default c = λ q.

@@ -7,5 +7,5 @@ use Rattle.vx_footer.specs.FieldSizes.{size_at}
 use Rattle.vx_footer.proofs.sizes.no_sizes.Given as goal
 
 -- the paths so far
-abbrev pub invariant-loop-path : goal.invariant-loop-path
-invariant-loop-path l = (q : Path) → size_at l.sizes.entries q ≡ (if list_any (is_at (path_cmp q)) (take l.path-index l.paths) then Some 0 else None)
+abbrev pub invariant-loop-at : goal.invariant-loop-at
+invariant-loop-at l = (q : Path) → size_at l.sizes.entries q ≡ (if list_any (is_at (path_cmp q)) (take l.at l.paths) then Some 0 else None)
