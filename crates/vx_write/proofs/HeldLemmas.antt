@@ -1,19 +1,19 @@
 -- Rows that come behind rows which fill no chunk.
-use Rattle.std.proofs.Common.{◌≡◌, ℕ, zero, suc, ◌+◌, ◌-◌, ◌*◌, ◌/◌, ◌%◌, ◌^◌, ◌<◌, ◌≤◌, min, Bool, true, false, List, [], ◌∷◌, refl, ap, ap₂, sym, ◌∙◌, subst, arith, inl, inr}
+use Rattle.std.proofs.Common.{◌≡◌, ℕ, suc, ◌+◌, ◌-◌, ◌*◌, ◌/◌, ◌<◌, ◌≤◌, Bool, true, false, ap, ap₂, sym, ◌∙◌, subst, arith, inl, inr}
 use Rattle.std.specs.Prelude.{nat_le, if◌then◌else◌, ◌⊎◌}
 use Rattle.std.proofs.lemmas.Bool.{cases_Bool}
 use Rattle.std.proofs.Math.Nat.{mul-suc, mul-div-le, lt-mul-div-succ, div-eq_of_lt-le, mul_comm}
-use Rattle.vx_rows.specs.Rows.{Rows, rows_len, dtype_of, HasRows, IsColumn}
+use Rattle.vx_rows.specs.Rows.{Rows, rows_len, dtype_of, HasRows}
 use Rattle.vx_rows.specs.Parts.{part, appended, plain_size}
-use Rattle.vx_rows.proofs.ColumnLaws.{rows_are, column_rows, part_rows, part_type, part_of_part, appended_rows, appended_type, all-kept}
+use Rattle.vx_rows.proofs.ColumnLaws.{part_of_part}
 use Rattle.vx_write.specs.declared.gathering.Gathered.{Gathered}
 use Rattle.vx_write.specs.declared.gathering.Gathered.TheVariants.{Full, Open}
 use Rattle.vx_write.specs.Cutting.{Cut, cut_blocks, nothing_full, with_chunk}
 use Rattle.vx_write.specs.Gathering.{gathered_from, first_end}
 use Rattle.vx_write.proofs.CutLemmas.{cut_full, cut_open, more_size, SameRows, moved, blocks_moved}
-use Rattle.vx_write.proofs.BehindLemmas.{back_again, back_same, part_goes_on}
+use Rattle.vx_write.proofs.BehindLemmas.{back_same}
 use Rattle.vx_write.proofs.CutLaws.{blocks_within, blocks_after, kept_goes_on}
-use Rattle.vx_write.proofs.GatherLemmas.{FillsAt, Cuts, gather_cuts, gather_moved, place_moved}
+use Rattle.vx_write.proofs.GatherLemmas.{Cuts, gather_cuts, gather_moved, place_moved}
 
 -- ---- numbers
 
@@ -70,7 +70,7 @@ HeldCut rows target c d from (Open sum) = cut_blocks rows target (appended c d) 
 
 -- the block that rows share with those that come
 abbrev pub shared_block : ℕ → Rows → Rows → ℕ → Rows
-shared_block rows c d from = appended (part (rows * (rows_len c / rows)) (rows_len c) c) (part 0 from d)
+shared_block rows c d from = part (rows * (rows_len c / rows)) (rows_len c + from) (appended c d)
 
 -- what is asked of rows that are held and rows that come
 pub record Meets (rows target : ℕ) (c d : Rows) (gathered from : ℕ) : Type 0 where
@@ -108,7 +108,6 @@ held_cut rows target c d gathered from m =
     let within = blocks_within rows (rows_len c) m.blocks in
     let missing = m.missing in
     let enough = m.enough in
-    let low : rows * (rows_len c / rows) ≤ rows_len c = within in
     let step = mul-suc rows (rows_len c / rows) in
     let next : rows * suc (rows_len c / rows) ≡ rows_len c + from = omega (arith, step, missing) in
     let behind : rows_len c + rows_len d - rows * suc (rows_len c / rows) ≡ rows_len d - from = omega (arith, next) in
@@ -120,8 +119,7 @@ held_cut rows target c d gathered from m =
     ap (cut_blocks rows target (appended c d) 0 0 0) (sym all)
     ∙ kept_goes_on rows target (rows_len c) gathered c d m.held (rows_len c / rows) (suc ((rows_len d - from) / rows)) within m.none_full in
     let block : part (rows * (rows_len c / rows)) (rows * (rows_len c / rows) + rows) (appended c d) ≡ shared_block rows c d from =
-    ap (λ z. part (rows * (rows_len c / rows)) z (appended c d)) (sym missing)
-    ∙ sym (part_goes_on (rows_len c) (rows_len d) (rows * (rows_len c / rows)) from c d m.typed m.held m.come low enough) in
+    ap (λ z. part (rows * (rows_len c / rows)) z (appended c d)) (sym missing) in
     let size : more_size rows (appended c d) gathered (rows * (rows_len c / rows)) ≡ gathered + plain_size (shared_block rows c d from) = ap (λ x. gathered + plain_size x) block in
     by start size (cases_Bool (nat_le target (gathered + plain_size (shared_block rows c d from))))
   where

@@ -1,11 +1,10 @@
 -- Rows that are held, and rows that come.
-use Rattle.std.proofs.Common.{◌≡◌, ℕ, zero, suc, ◌+◌, ◌-◌, ◌*◌, ◌/◌, ◌%◌, ◌<◌, ◌≤◌, Bool, true, false, List, [], ◌∷◌, ◌++◌, Option, Some, None, refl, ap, ap₂, sym, ◌∙◌, subst, arith}
+use Rattle.std.proofs.Common.{◌≡◌, ℕ, ◌+◌, ◌-◌, ◌*◌, ◌/◌, ◌%◌, ◌<◌, ◌≤◌, List, [], ◌∷◌, Option, Some, None, refl, ap, ap₂, sym, ◌∙◌, subst, arith}
 use Rattle.std.specs.Prelude.{unwrap_or, Result, Ok, Err, IfOk}
-use Rattle.std.proofs.Math.Nat.{mul-suc, div-eq_of_lt, mod-lt}
-use Rattle.vx_data.specs.Dtype.{Dtype}
-use Rattle.vx_rows.specs.Rows.{Rows, rows_len, dtype_of, HasRows, IsColumn}
+use Rattle.std.proofs.Math.Nat.{div-eq_of_lt, mod-lt, mod-le}
+use Rattle.vx_rows.specs.Rows.{Rows, rows_len, dtype_of, IsColumn}
 use Rattle.vx_rows.specs.Parts.{part, appended, plain_size}
-use Rattle.vx_rows.proofs.ColumnLaws.{column_rows, rows_are, part_rows, part_type, part_of_part, part_is_column, appended_rows, appended_is_column, front_again, all-kept}
+use Rattle.vx_rows.proofs.ColumnLaws.{column_rows, rows_are, part_rows, part_type, part_of_part, part_is_column, appended_rows, appended_is_column, all-kept}
 use Rattle.vx_write.specs.declared.strategy.LeafStrategy.{LeafStrategy}
 use Rattle.vx_write.specs.declared.strategy.LeafStrategy.TheVariants.{Blocks, Whole}
 use Rattle.vx_write.specs.declared.gathering.Gathered.{Gathered}
@@ -16,13 +15,14 @@ use Rattle.vx_write.specs.declared.cutting.CutColumn.{CutColumn}
 use Rattle.vx_write.specs.declared.feeding.Fed.{Fed}
 use Rattle.vx_write.specs.Cutting.{Cut, cut_blocks, cut as cut_of, nothing_full, with_chunk, with_chunks, full_chunks, rest}
 use Rattle.vx_write.specs.Gathering.{first_end}
-use Rattle.vx_write.specs.Holding.{Holds, open_block, IsOpenBlock}
-use Rattle.vx_write.specs.Feeding.{cut_view, FeedsFirst, Feeds, StillThere}
+use Rattle.vx_write.specs.Holding.{Holds}
+use Rattle.vx_write.specs.Feeding.{cut_view, FeedsFirst, Feeds}
 use Rattle.vx_write.specs.Chunks.{columns_seen}
 use Rattle.vx_write.proofs.CutLemmas.{moved}
-use Rattle.vx_write.proofs.BehindLemmas.{back_again, back_same, part_goes_on}
+use Rattle.vx_write.proofs.BehindLemmas.{back_again, back_same, parts_meet, part_goes_on}
 use Rattle.vx_write.proofs.CutLaws.{blocks_within, blocks_after, start_inside, rest_open, front_cut, with_chunks_are, with_chunks_start, with_chunks_gathered}
-use Rattle.vx_write.proofs.HeldLemmas.{Meets, HeldCut, FirstFull, held_cut, shared_block}
+use Rattle.vx_write.proofs.HeldLemmas.{Meets, HeldCut, held_cut, shared_block}
+use Rattle.vx_write.proofs.StillLemmas.{whole_part}
 
 -- ---- numbers of rows
 
@@ -47,60 +47,44 @@ both_long c d t h k =
 pub whole_end : (rows n : ℕ) → 1 ≤ rows → rows * (n / rows) ≡ n - n % rows
 whole_end rows n h = omega arith
 
+-- where the last block is whole
+pub missing_is : (rows n from : ℕ) → 1 ≤ rows → from ≡ rows - n % rows → n + from ≡ rows * (n / rows) + rows
+missing_is rows n from h e =
+    let ends = whole_end rows n h in
+    let over = mod-lt n h in
+    let low = mod-le n rows in
+    omega (arith, e, ends, over, low)
+
 -- ---- a column of which nothing was held
 
--- the block that a part leaves open is the last rows of the column
-pub open_part : (rows start place : ℕ) (c : Rows) → 1 ≤ rows → start ≤ rows_len c → IsColumn (rows_len c) c → place ≡ rows_len c - (rows_len c - start) % rows
-    → part place (rows_len c) c ≡ open_block rows (part start (rows_len c) c)
-open_part rows start place c h o k e =
-    let long = part_long c start (rows_len c) o (omega arith) k in
-    let within = blocks_within rows (rows_len c - start) h in
-    let ends = whole_end rows (rows_len c - start) h in
-    let a : start + rows * ((rows_len c - start) / rows) ≡ place = omega (arith, ends, e, o, within) in
-    let b : start + (rows_len c - start) ≡ rows_len c = omega (arith, o) in
-    sym (
-    ap (λ n. part (rows * (n / rows)) n (part start (rows_len c) c)) long
-    ∙ part_of_part start (rows_len c) (rows * ((rows_len c - start) / rows)) (rows_len c - start) c within (omega arith)
-    ∙ ap₂ (λ x y. part x y c) a b
-    )
-
-pub first_fed : (rows bytes place : ℕ) (target : Option ℕ) (c : Rows) (before : List Rows) (cut : CutColumn) (held block : Rows) → bytes ≡ unwrap_or target 0 → 1 ≤ rows → IsColumn (rows_len c) c
-    → cut_view cut ≡ with_chunks before (cut_blocks rows bytes c 0 0 0 (rows_len c / rows)) → cut.start ≤ rows_len c → held ≡ part cut.start (rows_len c) c
-    → place ≡ rows_len c - (rows_len c - cut.start) % rows → block ≡ part place (rows_len c) c
-    → FeedsFirst rows target before c (record { chunks = cut.chunks; pending = record { rows = Some held; block = Some block; gathered = cut.gathered } })
-first_fed rows bytes at target c before cut held block b h k e inside is place there =
+pub first_fed : (rows bytes : ℕ) (target : Option ℕ) (c : Rows) (before : List Rows) (cut : CutColumn) (held : Rows) → bytes ≡ unwrap_or target 0
+    → cut_view cut ≡ with_chunks before (cut_blocks rows bytes c 0 0 0 (rows_len c / rows)) → held ≡ part cut.start (rows_len c) c
+    → FeedsFirst rows target before c (record { chunks = cut.chunks; pending = record { rows = Some held; gathered = cut.gathered } })
+first_fed rows bytes target c before cut held b e is =
     let all : cut_view cut ≡ with_chunks before (cut_of (Blocks rows target) c) = e ∙ ap (λ t. with_chunks before (cut_blocks rows t c 0 0 0 (rows_len c / rows))) b in
     let start : cut.start ≡ (cut_of (Blocks rows target) c).start = ap (λ (x : Cut). x.start) all ∙ with_chunks_start before (cut_of (Blocks rows target) c) in record {
       chunks = ap (λ (x : Cut). x.chunks) all ∙ with_chunks_are before (cut_of (Blocks rows target) c);
       kept = ap Some (is ∙ ap (λ n. part n (rows_len c) c) start);
-      in_block = ap Some (there ∙ open_part rows cut.start at c h inside k place ∙ ap (λ n. open_block rows (part n (rows_len c) c)) start);
       gathered = ap (λ (x : Cut). x.gathered) all ∙ with_chunks_gathered before (cut_of (Blocks rows target) c);
     }
 
 -- what a column leaves is held
-pub rest_is_held : (rows : ℕ) (target : Option ℕ) (c : Rows) → 1 ≤ rows → IsColumn (rows_len c) c
-    → Holds (Blocks rows target) (rest (Blocks rows target) c) (open_block rows (rest (Blocks rows target) c)) (cut_of (Blocks rows target) c).gathered
+pub rest_is_held : (rows : ℕ) (target : Option ℕ) (c : Rows) → 1 ≤ rows → IsColumn (rows_len c) c → Holds (Blocks rows target) (rest (Blocks rows target) c) (cut_of (Blocks rows target) c).gathered
 rest_is_held rows target c h k =
-    let start = start_inside (Blocks rows target) c h in
-    let sound = sound_part c (cut_of (Blocks rows target) c).start (rows_len c) start (omega arith) k in
-    let within = blocks_within rows (rows_len (rest (Blocks rows target) c)) h in record {
+    let start = start_inside (Blocks rows target) c h in record {
       blocks = h;
-      sound = sound;
-      sound_block = sound_part (rest (Blocks rows target) c) (rows * (rows_len (rest (Blocks rows target) c) / rows)) (rows_len (rest (Blocks rows target) c)) within (omega arith) sound;
+      sound = sound_part c (cut_of (Blocks rows target) c).start (rows_len c) start (omega arith) k;
       none_full = rest_open (Blocks rows target) (rows_len c) c h (column_rows (rows_len c) c k);
-      in_block = refl;
     }
 
 -- the same of what was fed, whatever stood there
-pub fed_is_held : (rows : ℕ) (target : Option ℕ) (before : List Rows) (c x y : Rows) (fed : Fed) → 1 ≤ rows → IsColumn (rows_len c) c → FeedsFirst rows target before c fed
-    → (unwrap_or fed.pending.rows x ≡ rest (Blocks rows target) c) × Holds (Blocks rows target) (unwrap_or fed.pending.rows x) (unwrap_or fed.pending.block y) fed.pending.gathered
-fed_is_held rows target before c x y fed h k f =
-    let rows_is : unwrap_or fed.pending.rows x ≡ rest (Blocks rows target) c = ap (λ (o : Option Rows). unwrap_or o x) f.kept in
-    let block_is : unwrap_or fed.pending.block y ≡ open_block rows (rest (Blocks rows target) c) = ap (λ (o : Option Rows). unwrap_or o y) f.in_block in (
+pub fed_is_held : (rows : ℕ) (target : Option ℕ) (before : List Rows) (c x : Rows) (fed : Fed) → 1 ≤ rows → IsColumn (rows_len c) c → FeedsFirst rows target before c fed
+    → (unwrap_or fed.pending.rows x ≡ rest (Blocks rows target) c) × Holds (Blocks rows target) (unwrap_or fed.pending.rows x) fed.pending.gathered
+fed_is_held rows target before c x fed h k f =
+    let rows_is : unwrap_or fed.pending.rows x ≡ rest (Blocks rows target) c = ap (λ (o : Option Rows). unwrap_or o x) f.kept in (
       rows_is,
-      subst (λ (g : ℕ). Holds (Blocks rows target) (unwrap_or fed.pending.rows x) (unwrap_or fed.pending.block y) g) (sym f.gathered)
-          (subst (λ (b : Rows). Holds (Blocks rows target) (unwrap_or fed.pending.rows x) b (cut_of (Blocks rows target) c).gathered) (sym block_is)
-          (subst (λ (r : Rows). Holds (Blocks rows target) r (open_block rows (rest (Blocks rows target) c)) (cut_of (Blocks rows target) c).gathered) (sym rows_is) (rest_is_held rows target c h k))),
+      subst (λ (g : ℕ). Holds (Blocks rows target) (unwrap_or fed.pending.rows x) g) (sym f.gathered)
+          (subst (λ (r : Rows). Holds (Blocks rows target) r (cut_of (Blocks rows target) c).gathered) (sym rows_is) (rest_is_held rows target c h k)),
     )
 
 none_behind : (c d : Rows) → rows_len c ≡ 0 → dtype_of d ≡ dtype_of c → IsColumn (rows_len c) c → IsColumn (rows_len d) d → appended c d ≡ d
@@ -113,11 +97,11 @@ none_behind c d e t h k =
     ∙ ap (λ n. part n (rows_len c + rows_len d) (appended c d)) (sym e)
     ∙ back_again (rows_len c) (rows_len d) c d (sym t) p q
 
-pub first_feeds : (rows : ℕ) (target : Option ℕ) (held c x y : Rows) (fed : Fed) → 1 ≤ rows → rows_len held ≡ 0 → dtype_of c ≡ dtype_of held → IsColumn (rows_len held) held → IsColumn (rows_len c) c
-    → FeedsFirst rows target [] c fed → Feeds (Blocks rows target) held c x y fed
-first_feeds rows target held c x y fed h none t k l f =
+pub first_feeds : (rows : ℕ) (target : Option ℕ) (held c x : Rows) (fed : Fed) → 1 ≤ rows → rows_len held ≡ 0 → dtype_of c ≡ dtype_of held → IsColumn (rows_len held) held → IsColumn (rows_len c) c
+    → FeedsFirst rows target [] c fed → Feeds (Blocks rows target) held c x fed
+first_feeds rows target held c x fed h none t k l f =
     let same = none_behind held c none t k l in
-    let held_then = fed_is_held rows target [] c x y fed h l f in record {
+    let held_then = fed_is_held rows target [] c x fed h l f in record {
       chunks = f.chunks ∙ ap (full_chunks (Blocks rows target)) (sym same);
       kept = held_then.0 ∙ ap (rest (Blocks rows target)) (sym same);
       holds = held_then.1;
@@ -125,7 +109,30 @@ first_feeds rows target held c x y fed h none t k l f =
 
 -- ---- rows behind those that are held
 
--- ---- rows behind those that are held
+-- the first rows of a column come behind them
+pub front_comes : (held c : Rows) (to : ℕ) → dtype_of c ≡ dtype_of held → IsColumn (rows_len held) held → IsColumn (rows_len c) c → to ≤ rows_len c
+    → appended held (part 0 to c) ≡ part 0 (rows_len held + to) (appended held c)
+front_comes held c to t h k l =
+    let p = column_rows (rows_len held) held h in
+    let q = column_rows (rows_len c) c k in
+    ap (λ (r : Rows). appended r (part 0 to c)) (sym (all-kept held (rows_len held) p)) ∙ part_goes_on (rows_len held) (rows_len c) 0 to held c (sym t) p q (omega arith) l
+
+-- and then others
+pub more_comes : (held c held' : Rows) (from to : ℕ) → dtype_of c ≡ dtype_of held → IsColumn (rows_len held) held → IsColumn (rows_len c) c → from ≤ to → to ≤ rows_len c
+    → held' ≡ appended held (part 0 from c) → appended held' (part from to c) ≡ part 0 (rows_len held + to) (appended held c)
+more_comes held c held' from to t h k o l is =
+    let p = column_rows (rows_len held) held h in
+    let q = column_rows (rows_len c) c k in
+    let both = appended_rows (rows_len held) (rows_len c) held c (sym t) p q in
+    ap₂ appended (is ∙ front_comes held c from t h k (omega (arith, o, l))) (sym ((back_same (rows_len held) (rows_len c) held c (sym t) p q).same from to o l))
+    ∙ parts_meet (rows_len held + rows_len c) 0 (rows_len held + from) (rows_len held + to) (appended held c) both (omega arith) (omega (arith, o)) (omega (arith, l))
+
+-- all of them
+pub all_come : (held c held' held'' : Rows) (from : ℕ) → dtype_of c ≡ dtype_of held → IsColumn (rows_len held) held → IsColumn (rows_len c) c → from ≤ rows_len c
+    → held' ≡ appended held (part 0 from c) → held'' ≡ appended held' (part from (rows_len c) c) → held'' ≡ appended held c
+all_come held c held' held'' from t h k l is more =
+    let both = appended_rows (rows_len held) (rows_len c) held c (sym t) (column_rows (rows_len held) held h) (column_rows (rows_len c) c k) in
+    more ∙ more_comes held c held' from (rows_len c) t h k l (omega arith) is ∙ all-kept (appended held c) (rows_len held + rows_len c) both
 
 -- as many whole blocks
 pub same_blocks : (rows k y : ℕ) → 1 ≤ rows → rows * k ≤ y → y < rows * k + rows → y / rows ≡ k
@@ -134,96 +141,56 @@ same_blocks rows k y h l o =
     let all = blocks_after rows k y h l in
     omega (arith, none, all)
 
--- the rows of an open block
-pub block_long : (rows g : ℕ) (target : Option ℕ) (held block : Rows) → Holds (Blocks rows target) held block g → rows_len held ≡ rows * (rows_len held / rows) + rows_len block
-block_long rows g target held block m =
-    let within = blocks_within rows (rows_len held) m.blocks in
-    let long = ap rows_len m.in_block ∙ part_long held (rows * (rows_len held / rows)) (rows_len held) within (omega arith) m.sound in
-    omega (arith, long, within)
-
 pub none_rest : (s : LeafStrategy) (c : Rows) (g : ℕ) → cut_of s c ≡ nothing_full 0 g → IsColumn (rows_len c) c → rest s c ≡ c
 none_rest s c g e h = ap (λ (x : Cut). part x.start (rows_len c) c) e ∙ all-kept c (rows_len c) (column_rows (rows_len c) c h)
 
-pub grown_feeds : (s : LeafStrategy) (sum : ℕ) (held c held' y block : Rows) (fed : Fed) → HasBlocks s → IsColumn (rows_len held) held → IsColumn (rows_len block) block → dtype_of c ≡ dtype_of held → IsColumn (rows_len c) c
-    → held' ≡ appended held c → cut_of s (appended held c) ≡ nothing_full 0 sum → columns_seen fed.chunks.items ≡ [] → unwrap_or fed.pending.rows held' ≡ held' → unwrap_or fed.pending.block y ≡ block
-    → IsOpenBlock s (appended held c) block → fed.pending.gathered ≡ sum → Feeds s held c held' y fed
-grown_feeds s sum held c held' y block fed h k b t l more none chunks same others is bytes =
-    let sound = sound_both held c t k l in record {
+pub grown_feeds : (s : LeafStrategy) (sum : ℕ) (held c held' : Rows) (fed : Fed) → HasBlocks s → IsColumn (rows_len held) held → dtype_of c ≡ dtype_of held → IsColumn (rows_len c) c
+    → held' ≡ appended held c → cut_of s (appended held c) ≡ nothing_full 0 sum → columns_seen fed.chunks.items ≡ [] → fed.pending ≡ record { rows = None; gathered = sum } → Feeds s held c held' fed
+grown_feeds s sum held c held' fed h k t l more none chunks is =
+    let sound = sound_both held c t k l in
+    let same : unwrap_or fed.pending.rows held' ≡ appended held c = ap (λ (x : Pending). unwrap_or x.rows held') is ∙ more in record {
       chunks = chunks ∙ sym (ap (λ (x : Cut). x.chunks) none);
-      kept = same ∙ more ∙ sym (none_rest s (appended held c) sum none sound);
-      holds = subst (λ (n : ℕ). Holds s (unwrap_or fed.pending.rows held') (unwrap_or fed.pending.block y) n) (sym bytes)
-          (subst (λ (r : Rows). Holds s r (unwrap_or fed.pending.block y) sum) (sym (same ∙ more))
-          (subst (λ (r : Rows). Holds s (appended held c) r sum) (sym others) (record { blocks = h; sound = sound; sound_block = b; none_full = none; in_block = is })));
+      kept = same ∙ sym (none_rest s (appended held c) sum none sound);
+      holds = subst (λ (n : ℕ). Holds s (unwrap_or fed.pending.rows held') n) (sym (ap (λ (x : Pending). x.gathered) is))
+          (subst (λ (r : Rows). Holds s r sum) (sym same) (record { blocks = h; sound = sound; none_full = none }));
     }
 
-pub short_feeds : (rows g : ℕ) (target : Option ℕ) (held block c held' block' : Rows) (fed : Fed) → Holds (Blocks rows target) held block g → dtype_of c ≡ dtype_of held → IsColumn (rows_len c) c
-    → rows_len c < rows - rows_len block → held' ≡ appended held c → block' ≡ appended block c → columns_seen fed.chunks.items ≡ [] → fed.pending ≡ record { rows = None; block = None; gathered = g }
-    → Feeds (Blocks rows target) held c held' block' fed
-short_feeds rows g target held block c held' block' fed m t k less more more_block none is =
+-- rows that leave the last block as it is
+pub short_feeds : (rows g : ℕ) (target : Option ℕ) (held c held' : Rows) (fed : Fed) → Holds (Blocks rows target) held g → dtype_of c ≡ dtype_of held → IsColumn (rows_len c) c
+    → rows_len c < rows - rows_len held % rows → held' ≡ appended held (part 0 (rows_len c) c) → columns_seen fed.chunks.items ≡ [] → fed.pending ≡ record { rows = None; gathered = g }
+    → Feeds (Blocks rows target) held c held' fed
+short_feeds rows g target held c held' fed m t k less more none is =
     let within = blocks_within rows (rows_len held) m.blocks in
-    let long = block_long rows g target held block m in
+    let ends = whole_end rows (rows_len held) m.blocks in
+    let low = mod-le (rows_len held) rows in
     let size = both_long held c t m.sound k in
-    let p = column_rows (rows_len held) held m.sound in
-    let q = column_rows (rows_len c) c k in
-    let many : rows_len (appended held c) / rows ≡ rows_len held / rows = same_blocks rows (rows_len held / rows) (rows_len (appended held c)) m.blocks (omega (arith, within, size)) (omega (arith, long, size, less)) in
+    let many : rows_len (appended held c) / rows ≡ rows_len held / rows = same_blocks rows (rows_len held / rows) (rows_len (appended held c)) m.blocks (omega (arith, within, size)) (omega (arith, ends, low, size, less)) in
     let cut_is : cut_of (Blocks rows target) (appended held c) ≡ nothing_full 0 g =
-    ap (cut_blocks rows (unwrap_or target 0) (appended held c) 0 0 0) many ∙ front_cut rows (unwrap_or target 0) (rows_len held) held c p (rows_len held / rows) within ∙ m.none_full in
-    let all : part 0 (rows_len c) c ≡ c = all-kept c (rows_len c) q in
-    let block_is : appended block c ≡ open_block rows (appended held c) =
-    ap₂ appended m.in_block (sym all) ∙ part_goes_on (rows_len held) (rows_len c) (rows * (rows_len held / rows)) (rows_len c) held c (sym t) p q within (omega arith)
-    ∙ ap₂ (λ x y. part x y (appended held c)) (ap (λ x. rows * x) (sym many)) (sym size) in
-    let same_type : dtype_of c ≡ dtype_of block = t ∙ sym (part_type (rows * (rows_len held / rows)) (rows_len held) held) ∙ ap dtype_of (sym m.in_block) in
-    grown_feeds (Blocks rows target) g held c held' block' (appended block c) fed m.blocks m.sound (sound_both block c same_type m.sound_block k) t k more cut_is none
-    (ap (λ (x : Pending). unwrap_or x.rows held') is) (ap (λ (x : Pending). unwrap_or x.block block') is ∙ more_block) block_is (ap (λ (x : Pending). x.gathered) is)
+    ap (cut_blocks rows (unwrap_or target 0) (appended held c) 0 0 0) many
+    ∙ front_cut rows (unwrap_or target 0) (rows_len held) held c (column_rows (rows_len held) held m.sound) (rows_len held / rows) within ∙ m.none_full in
+    grown_feeds (Blocks rows target) g held c held' fed m.blocks m.sound t k (more ∙ ap (appended held) (whole_part c (rows_len c) refl k)) cut_is none is
 
--- rows that fill the open block, and no chunk
-pub on_feeds : (rows g sum from : ℕ) (target : Option ℕ) (held block c held' y : Rows) (fed : Fed) → Holds (Blocks rows target) held block g → dtype_of c ≡ dtype_of held → IsColumn (rows_len c) c
-    → rows_len block + from ≡ rows → from ≤ rows_len c → held' ≡ appended held c → cut_of (Blocks rows target) (appended held c) ≡ nothing_full 0 sum → columns_seen fed.chunks.items ≡ []
-    → fed.pending ≡ record { rows = None; block = Some (part (rows_len c - (rows_len c - from) % rows) (rows_len c) c); gathered = sum }
-    → Feeds (Blocks rows target) held c held' y fed
-on_feeds rows g sum from target held block c held' y fed m t k missing enough more none chunks is =
-    let within = blocks_within rows (rows_len held) m.blocks in
-    let long = block_long rows g target held block m in
-    let size = both_long held c t m.sound k in
-    let p = column_rows (rows_len held) held m.sound in
-    let q = column_rows (rows_len c) c k in
-    let left = blocks_within rows (rows_len c - from) m.blocks in
-    let ends = whole_end rows (rows_len c - from) m.blocks in
-    let over = mod-lt (rows_len c - from) m.blocks in
-    let step = mul-suc rows (rows_len held / rows) in
-    let next : rows * suc (rows_len held / rows) ≡ rows_len held + from = omega (arith, step, long, missing) in
-    let behind : rows_len held + rows_len c - rows * suc (rows_len held / rows) ≡ rows_len c - from = omega (arith, next) in
-    let many : rows_len (appended held c) / rows ≡ suc (rows_len held / rows) + (rows_len c - from) / rows =
-    ap (λ n. n / rows) size ∙ sym (blocks_after rows (suc (rows_len held / rows)) (rows_len held + rows_len c) m.blocks (omega (arith, next, enough))) ∙ ap (λ n. suc (rows_len held / rows) + n / rows) behind in
-    let total : rows * (suc (rows_len held / rows) + (rows_len c - from) / rows) ≡ rows * suc (rows_len held / rows) + rows * ((rows_len c - from) / rows) = mul_add rows (suc (rows_len held / rows)) ((rows_len c - from) / rows) in
-    let place : rows_len held + (rows_len c - (rows_len c - from) % rows) ≡ rows * (rows_len (appended held c) / rows) = omega (arith, total, next, ends, left, enough) ∙ ap (λ n. rows * n) (sym many) in
-    let inside : rows_len c - (rows_len c - from) % rows ≤ rows_len c = omega arith in
-    let block_is : part (rows_len c - (rows_len c - from) % rows) (rows_len c) c ≡ open_block rows (appended held c) =
-    sym ((back_same (rows_len held) (rows_len c) held c (sym t) p q).same (rows_len c - (rows_len c - from) % rows) (rows_len c) inside (omega arith))
-    ∙ ap₂ (λ a b. part a b (appended held c)) place (sym size) in
-    grown_feeds (Blocks rows target) sum held c held' y (part (rows_len c - (rows_len c - from) % rows) (rows_len c) c) fed m.blocks m.sound
-    (sound_part c (rows_len c - (rows_len c - from) % rows) (rows_len c) inside (omega arith) k) t k more none chunks
-    (ap (λ (x : Pending). unwrap_or x.rows held') is) (ap (λ (x : Pending). unwrap_or x.block y) is) block_is (ap (λ (x : Pending). x.gathered) is)
-  where
-    mul_add : (r a b : ℕ) → r * (a + b) ≡ r * a + r * b
-    mul_add r a b = grind arith
+-- rows that make the last block whole, and fill no chunk
+pub on_feeds : (rows g sum from : ℕ) (target : Option ℕ) (held c held' held'' : Rows) (fed : Fed) → Holds (Blocks rows target) held g → dtype_of c ≡ dtype_of held → IsColumn (rows_len c) c
+    → from ≤ rows_len c → held' ≡ appended held (part 0 from c) → held'' ≡ appended held' (part from (rows_len c) c) → cut_of (Blocks rows target) (appended held c) ≡ nothing_full 0 sum
+    → columns_seen fed.chunks.items ≡ [] → fed.pending ≡ record { rows = None; gathered = sum } → Feeds (Blocks rows target) held c held'' fed
+on_feeds rows g sum from target held c held' held'' fed m t k inside whole more none chunks is =
+    grown_feeds (Blocks rows target) sum held c held'' fed m.blocks m.sound t k (all_come held c held' held'' from t m.sound k inside whole more) none chunks is
 
 -- rows that fill a chunk
-pub full_feeds : (rows g end : ℕ) (target : Option ℕ) (held block c x y : Rows) (fed : Fed) → Holds (Blocks rows target) held block g → dtype_of c ≡ dtype_of held → IsColumn (rows_len c) c
-    → end ≤ rows_len c
+pub full_feeds : (rows g from end : ℕ) (target : Option ℕ) (held c held' x : Rows) (fed : Fed) → Holds (Blocks rows target) held g → dtype_of c ≡ dtype_of held → IsColumn (rows_len c) c
+    → from ≤ end → end ≤ rows_len c → held' ≡ appended held (part 0 from c)
     → cut_of (Blocks rows target) (appended held c) ≡ with_chunk (part 0 (rows_len held + end) (appended held c)) (moved (rows_len held + end) (cut_of (Blocks rows target) (part end (rows_len c) c)))
-    → FeedsFirst rows target (appended held (part 0 end c) ∷ []) (part end (rows_len c) c) fed → Feeds (Blocks rows target) held c x y fed
-full_feeds rows g end target held block c x y fed m t k inside is f =
+    → FeedsFirst rows target (appended held' (part from end c) ∷ []) (part end (rows_len c) c) fed → Feeds (Blocks rows target) held c x fed
+full_feeds rows g from end target held c held' x fed m t k ordered inside more is f =
     let p = column_rows (rows_len held) held m.sound in
     let q = column_rows (rows_len c) c k in
     let size = both_long held c t m.sound k in
     let sound = sound_part c end (rows_len c) inside (omega arith) k in
     let long = part_long c end (rows_len c) inside (omega arith) k in
-    let whole : part 0 (rows_len held) held ≡ held = all-kept held (rows_len held) p in
-    let first : appended held (part 0 end c) ≡ part 0 (rows_len held + end) (appended held c) =
-    ap (λ (r : Rows). appended r (part 0 end c)) (sym whole) ∙ part_goes_on (rows_len held) (rows_len c) 0 end held c (sym t) p q (omega arith) inside in
+    let first = more_comes held c held' from end t m.sound k ordered inside more in
     let start = start_inside (Blocks rows target) (part end (rows_len c) c) m.blocks in
-    let then = fed_is_held rows target (appended held (part 0 end c) ∷ []) (part end (rows_len c) c) x y fed m.blocks sound f in
+    let then = fed_is_held rows target (appended held' (part from end c) ∷ []) (part end (rows_len c) c) x fed m.blocks sound f in
     let place : rows_len held + (end + (cut_of (Blocks rows target) (part end (rows_len c) c)).start) ≡ (cut_of (Blocks rows target) (appended held c)).start =
     omega arith ∙ sym (ap (λ (z : Cut). z.start) is) in
     let ends : end + rows_len (part end (rows_len c) c) ≡ rows_len c = omega (arith, long, inside) in
@@ -238,26 +205,39 @@ full_feeds rows g end target held block c x y fed m t k inside is f =
     }
 
 -- all rows
-pub whole_feeds : (g : ℕ) (held block c held' block' : Rows) (fed : Fed) → Holds Whole held block g → dtype_of c ≡ dtype_of held → IsColumn (rows_len c) c → block' ≡ block → held' ≡ appended held c
-    → columns_seen fed.chunks.items ≡ [] → fed.pending ≡ record { rows = None; block = None; gathered = 0 } → Feeds Whole held c held' block' fed
-whole_feeds g held block c held' block' fed m t k same more none is =
-    grown_feeds Whole 0 held c held' block' block fed tt m.sound m.sound_block t k more refl none (ap (λ (x : Pending). unwrap_or x.rows held') is) (ap (λ (x : Pending). unwrap_or x.block block') is ∙ same) tt
-    (ap (λ (x : Pending). x.gathered) is)
+pub whole_feeds : (g : ℕ) (held c held' : Rows) (fed : Fed) → Holds Whole held g → dtype_of c ≡ dtype_of held → IsColumn (rows_len c) c → held' ≡ appended held (part 0 (rows_len c) c)
+    → columns_seen fed.chunks.items ≡ [] → fed.pending ≡ record { rows = None; gathered = 0 } → Feeds Whole held c held' fed
+whole_feeds g held c held' fed m t k more none is = grown_feeds Whole 0 held c held' fed tt m.sound t k (more ∙ ap (appended held) (whole_part c (rows_len c) refl k)) refl none is
 
 -- ---- what was gathered
 
--- the end of the first chunk, or how much there is
-abbrev pub Found : ℕ → Option ℕ → Rows → Rows → Gathered → Type 0
-Found rows target held c (Full end) =
-    (end ≤ rows_len c)
+-- the end of the first chunk, which is not before a row, or how much there is
+abbrev pub Found : ℕ → Option ℕ → Rows → Rows → ℕ → Gathered → Type 0
+Found rows target held c from (Full end) =
+    (from ≤ end)
+    × (end ≤ rows_len c)
     × (cut_of (Blocks rows target) (appended held c) ≡ with_chunk (part 0 (rows_len held + end) (appended held c)) (moved (rows_len held + end) (cut_of (Blocks rows target) (part end (rows_len c) c))))
-Found rows target held c (Open sum) = cut_of (Blocks rows target) (appended held c) ≡ nothing_full 0 sum
+Found rows target held c from (Open sum) = cut_of (Blocks rows target) (appended held c) ≡ nothing_full 0 sum
 
-pub found_is : (rows g from bytes : ℕ) (target : Option ℕ) (held block c block' : Rows) (found : Gathered) → Holds (Blocks rows target) held block g → dtype_of c ≡ dtype_of held → IsColumn (rows_len c) c
-    → rows_len block + from ≡ rows → from ≤ rows_len c → block' ≡ appended block (part 0 from c) → bytes ≡ unwrap_or target 0 → found ≡ first_end rows bytes c g (plain_size block') from
-    → Found rows target held c found
-found_is rows g from bytes target held block c block' found m t k missing enough more bytes_are is =
-    let long = block_long rows g target held block m in
+-- the last rows of those that are held are the block that is whole now
+pub last_block : (rows from : ℕ) (held c held' : Rows) → 1 ≤ rows → dtype_of c ≡ dtype_of held → IsColumn (rows_len held) held → IsColumn (rows_len c) c → from ≡ rows - rows_len held % rows → from ≤ rows_len c
+    → held' ≡ appended held (part 0 from c) → part (rows_len held' - rows) (rows_len held') held' ≡ shared_block rows held c from
+last_block rows from held c held' h t k l missing enough more =
+    let part_is = part_long c 0 from (omega arith) enough l in
+    let sound = sound_part c 0 from (omega arith) enough l in
+    let long = ap rows_len more ∙ both_long held (part 0 from c) (part_type 0 from c ∙ t) k sound in
+    let ends = missing_is rows (rows_len held) from h missing in
+    let within = blocks_within rows (rows_len held) h in
+    let first : rows_len held' - rows ≡ rows * (rows_len held / rows) = omega (arith, long, part_is, ends) in
+    let last : rows_len held' ≡ rows_len held + from = omega (arith, long, part_is) in
+    ap₂ (λ a b. part a b held') first last ∙ ap (part (rows * (rows_len held / rows)) (rows_len held + from)) (more ∙ front_comes held c from t k l enough)
+    ∙ part_of_part 0 (rows_len held + from) (rows * (rows_len held / rows)) (rows_len held + from) (appended held c) (omega (arith, within)) (omega arith)
+    ∙ ap₂ (λ a b. part a b (appended held c)) (omega arith) (omega arith)
+
+pub found_is : (rows g from bytes : ℕ) (target : Option ℕ) (held c held' : Rows) (found : Gathered) → Holds (Blocks rows target) held g → dtype_of c ≡ dtype_of held → IsColumn (rows_len c) c
+    → from ≡ rows - rows_len held % rows → from ≤ rows_len c → held' ≡ appended held (part 0 from c) → bytes ≡ unwrap_or target 0
+    → found ≡ first_end rows bytes c g (plain_size (part (rows_len held' - rows) (rows_len held') held')) from → Found rows target held c from found
+found_is rows g from bytes target held c held' found m t k missing enough more bytes_are is =
     let size = both_long held c t m.sound k in
     let meets : Meets rows (unwrap_or target 0) held c g from = record {
       blocks = m.blocks;
@@ -265,36 +245,24 @@ found_is rows g from bytes target held block c block' found m t k missing enough
       held = column_rows (rows_len held) held m.sound;
       come = column_rows (rows_len c) c k;
       none_full = m.none_full;
-      missing = omega (arith, long, missing);
+      missing = missing_is rows (rows_len held) from m.blocks missing;
       enough = enough;
     } in
-    let block_is : block' ≡ shared_block rows held c from = more ∙ ap (λ (b : Rows). appended b (part 0 from c)) m.in_block in
+    let block_is = last_block rows from held c held' m.blocks t m.sound k missing enough more in
     let end_is : first_end rows (unwrap_or target 0) c g (plain_size (shared_block rows held c from)) from ≡ found =
-    ap (λ (b : Rows). first_end rows (unwrap_or target 0) c g (plain_size b) from) (sym block_is) ∙ ap (λ n. first_end rows n c g (plain_size block') from) (sym bytes_are) ∙ sym is in
+    sym (is ∙ ap₂ (λ (n : ℕ) (b : Rows). first_end rows n c g (plain_size b) from) bytes_are block_is) in
     by size found (subst (HeldCut rows (unwrap_or target 0) held c from) end_is (held_cut rows (unwrap_or target 0) held c g from meets))
   where
-    by : rows_len (appended held c) ≡ rows_len held + rows_len c → (f : Gathered) → HeldCut rows (unwrap_or target 0) held c from f → Found rows target held c f
+    by : rows_len (appended held c) ≡ rows_len held + rows_len c → (f : Gathered) → HeldCut rows (unwrap_or target 0) held c from f → Found rows target held c from f
     by size (Full end) f =
         let high = f.high in (
+          f.low,
           high,
           ap (λ n. cut_blocks rows (unwrap_or target 0) (appended held c) 0 0 0 (n / rows)) size ∙ f.chunk
               ∙ ap (λ n. with_chunk (part 0 (rows_len held + end) (appended held c)) (moved (rows_len held + end) (cut_blocks rows (unwrap_or target 0) (part end (rows_len c) c) 0 0 0 (n / rows))))
               (sym (part_long c end (rows_len c) high (omega arith) k)),
         )
     by size (Open sum) f = ap (λ n. cut_blocks rows (unwrap_or target 0) (appended held c) 0 0 0 (n / rows)) size ∙ f
-
--- ---- what is asked of the open block
-
-pub block_typed : (rows g : ℕ) (target : Option ℕ) (held block c : Rows) → Holds (Blocks rows target) held block g → dtype_of c ≡ dtype_of held → dtype_of c ≡ dtype_of block
-block_typed rows g target held block c m t = t ∙ sym (part_type (rows * (rows_len held / rows)) (rows_len held) held) ∙ ap dtype_of (sym m.in_block)
-
-pub block_less : (rows g : ℕ) (target : Option ℕ) (held block : Rows) → Holds (Blocks rows target) held block g → rows_len block < rows
-block_less rows g target held block m =
-    let long = block_long rows g target held block m in
-    let ends = whole_end rows (rows_len held) m.blocks in
-    let over = mod-lt (rows_len held) m.blocks in
-    let within = blocks_within rows (rows_len held) m.blocks in
-    omega (arith, long, ends, over, within)
 
 -- ---- answers
 
@@ -305,7 +273,3 @@ ok_by (Err e) P Q f h = tt
 pub ok_by_three : {A E : Type 0} → (r : Result A E) (P Q R S : A → Type 0) → ((x : A) → P x → Q x → R x → S x) → IfOk r P → IfOk r Q → IfOk r R → IfOk r S
 ok_by_three (Ok x) P Q R S f h k l = f x h k l
 ok_by_three (Err e) P Q R S f h k l = tt
-
-pub ok_by_four : {A E : Type 0} → (r : Result A E) (P Q R S T : A → Type 0) → ((x : A) → P x → Q x → R x → S x → T x) → IfOk r P → IfOk r Q → IfOk r R → IfOk r S → IfOk r T
-ok_by_four (Ok x) P Q R S T f h k l m = f x h k l m
-ok_by_four (Err e) P Q R S T f h k l m = tt

@@ -1,5 +1,5 @@
 -- What a push of rows leaves of a leaf.
-use Rattle.std.specs.Prelude.{◌≡◌, ℕ, ◌+◌, ◌/◌, ◌≤◌, List, ◌++◌, map, Option, Some, unwrap_or}
+use Rattle.std.specs.Prelude.{◌≡◌, ℕ, List, ◌++◌, Option, Some, unwrap_or}
 use Rattle.vx_rows.specs.Rows.{Rows, rows_len}
 use Rattle.vx_rows.specs.Parts.{part, appended}
 use Rattle.vx_write.specs.declared.strategy.LeafStrategy.{LeafStrategy}
@@ -7,7 +7,7 @@ use Rattle.vx_write.specs.declared.strategy.LeafStrategy.TheVariants.{Blocks}
 use Rattle.vx_write.specs.declared.cutting.CutColumn.{CutColumn}
 use Rattle.vx_write.specs.declared.feeding.Fed.{Fed}
 use Rattle.vx_write.specs.Cutting.{Cut, cut, full_chunks, rest}
-use Rattle.vx_write.specs.Holding.{Holds, open_block}
+use Rattle.vx_write.specs.Holding.{Holds}
 use Rattle.vx_write.specs.Chunks.{columns_seen}
 
 abbrev pub cut_view : CutColumn → Cut
@@ -21,11 +21,10 @@ StillThere old new = part 0 (rows_len old) new ≡ old
 pub record FeedsFirst (rows : ℕ) (target : Option ℕ) (before : List Rows) (push : Rows) (fed : Fed) : Type 0 where
   pub chunks : columns_seen fed.chunks.items ≡ before ++ full_chunks (Blocks rows target) push
   pub kept : fed.pending.rows ≡ Some (rest (Blocks rows target) push)
-  pub in_block : fed.pending.block ≡ Some (open_block rows (rest (Blocks rows target) push))
   pub gathered : fed.pending.gathered ≡ (cut (Blocks rows target) push).gathered
 
 -- the full chunks of rows that are held and of those of a push, and what is held then: other rows, or those that stand there
-pub record Feeds (s : LeafStrategy) (held push c block : Rows) (fed : Fed) : Type 0 where
+pub record Feeds (s : LeafStrategy) (held push c : Rows) (fed : Fed) : Type 0 where
   pub chunks : columns_seen fed.chunks.items ≡ full_chunks s (appended held push)
   pub kept : unwrap_or fed.pending.rows c ≡ rest s (appended held push)
-  pub holds : Holds s (unwrap_or fed.pending.rows c) (unwrap_or fed.pending.block block) fed.pending.gathered
+  pub holds : Holds s (unwrap_or fed.pending.rows c) fed.pending.gathered

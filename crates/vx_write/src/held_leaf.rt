@@ -8,7 +8,7 @@ ghost use Rattle.vx_write.specs.Strategies.{HasBlocks};
 ghost use Rattle.vx_write.specs.Cutting.{full_chunks, last_chunk};
 ghost use Rattle.vx_write.specs.Leaves.{leaf_type, grown_leaf, AllOfType};
 ghost use Rattle.vx_write.specs.Chunks.{columns_seen, last_seen};
-ghost use Rattle.vx_write.specs.Holding.{open_rows, IsHeld};
+ghost use Rattle.vx_write.specs.Holding.{IsHeld};
 ghost use Rattle.vx_write.specs.Feeding.{Feeds};
 
 use crate::LeafStrategy;
@@ -19,13 +19,11 @@ use std::marker::Model;
 use vx_data::DType;
 use vx_rows::{Column, GrowingColumn};
 
-/// A leaf, and the rows that are held back of it. Those of them in a block that is not whole are kept once more, since
-/// its size is asked when it is. Behind them stand rows of a push that is under way.
+/// A leaf, and the rows that are held back of it. Behind them stand rows of a push that is under way.
 #[derive(Drop)]
 pub(crate) struct HeldLeaf {
     strategy: LeafStrategy,
     rows: GrowingColumn,
-    block: GrowingColumn,
     count: usize,
     gathered: u64,
     size: u64,
@@ -43,18 +41,7 @@ impl Model for HeldLeaf {
 
     ghost view = { λ a. record { now = held_leaf a.strategy a.rows a.count; next = pending_leaf a.strategy a.rows a.count a.pending } };
 
-    ghost invariant = { λ a. KeepsLeaf a.strategy a.rows a.block a.count a.gathered a.size a.pending };
-}
-
-/// How many of so many rows lie in a block that is not whole.
-fn open_len(strategy: LeafStrategy, count: usize) -> usize
-    requires { HasBlocks strategy }
-    ensures { result ≡ open_rows strategy count }
-{
-    match strategy {
-        LeafStrategy::Whole => 0,
-        LeafStrategy::Blocks { rows, .. } => count % rows,
-    }
+    ghost invariant = { λ a. KeepsLeaf a.strategy a.rows a.count a.gathered a.size a.pending };
 }
 
 /// The full chunks of so many rows that are held and of those of a column, and what is held then. Only memory refuses.
@@ -62,21 +49,19 @@ fn feed_held(
     alloc: Global,
     strategy: LeafStrategy,
     rows: &mut GrowingColumn,
-    block: &mut GrowingColumn,
     count: usize,
     gathered: u64,
     column: &Column,
 ) -> Result<Fed, AllocError>
-    requires held { IsHeld strategy rows.old block.old count gathered }
+    requires held { IsHeld strategy rows.old count gathered }
     requires typed { dtype_of (column_view column.now) ≡ dtype_of rows.old }
     requires even { IsColumn (rows_len (column_view column.now)) (column_view column.now) }
-    ensures fed { IfOk result (Feeds strategy (part 0 count rows.old) (column_view column.now) rows.new block.new) }
-    ensures held { IsHeld strategy rows.new block.new count gathered }
+    ensures fed { IfOk result (Feeds strategy (part 0 count rows.old) (column_view column.now) rows.new) }
+    ensures held { IsHeld strategy rows.new count gathered }
     ensures same { part 0 count rows.new ≡ part 0 count rows.old }
 {
     rows.truncate(count);
-    block.truncate(open_len(strategy, count));
-    feed_rows(alloc, strategy, rows, block, gathered, column)
+    feed_rows(alloc, strategy, rows, gathered, column)
 }
 
 /// Puts other rows in place of these, where there are others.
@@ -111,12 +96,12 @@ fn last_of(
     ensures chunk { IfOk result (λ last. last_seen last ≡ last_chunk strategy (part 0 count rows)) }
     ensures sound { IfOk result (λ last. AllOfType (dtype_of rows) (last_seen last)) }
 {
-    let mut rows = rows;
-    rows.truncate(count);
+    let mut kept = rows;
+    kept.truncate(count);
     if !has_last(strategy, count) {
         return Ok(None);
     }
-    let column = rows.finish(alloc)?;
+    let column = kept.finish(alloc)?;
     Ok(Some(column))
 }
 
@@ -131,12 +116,10 @@ impl HeldLeaf {
         ensures { IfOk result (λ leaf. leaf.now ≡ record { strategy = strategy; kept = no_rows (dtype_view dtype.now) }) }
     {
         let rows = GrowingColumn::new(alloc, dtype)?;
-        let block = GrowingColumn::new(alloc, dtype)?;
         let size = rows.plain_size();
         Ok(HeldLeaf {
             strategy,
             rows,
-            block,
             count: 0,
             gathered: 0,
             size,
@@ -159,7 +142,6 @@ impl HeldLeaf {
             alloc,
             self.strategy,
             &mut self.rows,
-            &mut self.block,
             self.count,
             self.gathered,
             column,
@@ -176,7 +158,6 @@ impl HeldLeaf {
             None => {}
             Some(pending) => {
                 replace(&mut self.rows, pending.rows);
-                replace(&mut self.block, pending.block);
                 self.gathered = pending.gathered;
                 self.count = self.rows.len();
                 self.size = self.rows.plain_size();

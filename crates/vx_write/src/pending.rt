@@ -1,11 +1,10 @@
 //! What is held back of a leaf once a push is settled.
 use vx_rows::GrowingColumn;
 
-/// What is held back of a leaf once a push is settled: its rows and those in a block that is not whole, where they are
-/// not the ones that are held now with some behind them, and how many bytes its whole blocks have.
+/// What is held back of a leaf once a push is settled: its rows, where they are not the ones that are held now with some
+/// behind them, and how many bytes its whole blocks have.
 #[derive(Drop)]
 pub(crate) struct Pending {
     pub(crate) rows: Option<GrowingColumn>,
-    pub(crate) block: Option<GrowingColumn>,
     pub(crate) gathered: u64,
 }
