@@ -6,6 +6,7 @@ use Rattle.std.specs.Int.{w16, w32, w64, to_le_bytes}
 use Rattle.std.specs.List.{All, AllByRecursion, flat_map, list_all}
 use Rattle.std.specs.Str.{IsUtf8}
 use Rattle.std.proofs.lemmas.Bool.{lt-ltb}
+use Rattle.itoa.proofs.Decimal.{length_one, length_two, length_step_wide}
 use Rattle.std.proofs.lemmas.Fmt.{IsAscii-decimal, length-decimal-le}
 use Rattle.std.proofs.lemmas.List.Elements.{All-from_recursion}
 use Rattle.std.proofs.lemmas.Str.{IsUtf8-from_ascii}
@@ -51,6 +52,20 @@ flat_none g f k n h = let e : n - k ≡ 0 = omega (arith, h) in rw e refl
 
 pub number_short : (n : ℕ) → n < 1000 → length (decimal n) ≤ 3
 number_short n h = length-decimal-le 3 n (omega arith) (omega (arith, h)) (omega (arith, h))
+
+pub digits_one : (n : ℕ) → n < 10 → 1 ≡ length (decimal n)
+digits_one n h = sym (length_one n h)
+
+pub digits_two : (n : ℕ) → 10 ≤ n → n < 100 → 2 ≡ length (decimal n)
+digits_two n l h = sym (length_two n l h)
+
+pub digits_three : (n : ℕ) → 100 ≤ n → n < 1000 → 3 ≡ length (decimal n)
+digits_three n l h =
+    let two = length_two (n / 10) (omega (arith, l)) (omega (arith, h)) in
+    let step = length_step_wide n (omega (arith, l)) (omega (arith, h)) in
+    omega (arith, two, step)
+
+pub ruleset digits_many = (digits_one, digits_two, digits_three)
 
 -- ---- which rows have a score
 

@@ -1,11 +1,42 @@
--- Hex text, piece by piece.
-use Rattle.std.proofs.Common.{◌≡◌, ℕ, List, [], ◌∷◌, ◌++◌, refl, sym, ap, subst, ◌∙◌, append_assoc}
+-- Hex text, digit by digit and piece by piece.
+use Rattle.std.proofs.Common.{◌≡◌, ℕ, zero, suc, ◌+◌, ◌-◌, ◌<◌, ◌≤◌, arith, List, [], ◌∷◌, ◌++◌, refl, sym, ap, subst, ◌∙◌, append_assoc}
 use Rattle.std.specs.Prelude.{slice_index, ◌/◌, ◌%◌}
 use Rattle.std.proofs.lemmas.List.{append-nil}
 use Rattle.hex.specs.Hex.{encode_with, encode_lower, lower_digits}
 use Rattle.vx_base.specs.Streams.{SinkState}
 use Rattle.vx_main.specs.Text.{TextState, Adds}
 use Rattle.vx_main.proofs.TextLemmas.{adds_then, adds_nothing}
+
+-- ---- digits
+
+pub digit_low : (n : ℕ) → n < 10 → 48 + n ≡ slice_index lower_digits n
+digit_low zero h = refl
+digit_low (suc zero) h = refl
+digit_low (suc (suc zero)) h = refl
+digit_low (suc (suc (suc zero))) h = refl
+digit_low (suc (suc (suc (suc zero)))) h = refl
+digit_low (suc (suc (suc (suc (suc zero))))) h = refl
+digit_low (suc (suc (suc (suc (suc (suc zero)))))) h = refl
+digit_low (suc (suc (suc (suc (suc (suc (suc zero))))))) h = refl
+digit_low (suc (suc (suc (suc (suc (suc (suc (suc zero)))))))) h = refl
+digit_low (suc (suc (suc (suc (suc (suc (suc (suc (suc zero))))))))) h = refl
+digit_low (suc (suc (suc (suc (suc (suc (suc (suc (suc (suc n)))))))))) h = absurd (omega (arith, h))
+
+pub digit_high : (n : ℕ) → 10 ≤ n → n < 16 → 87 + n ≡ slice_index lower_digits n
+digit_high n l h = let e : n ≡ 10 + (n - 10) = omega (arith, l) in subst (λ k. 87 + k ≡ slice_index lower_digits k) (sym e) (letter (n - 10) (omega (arith, l, h)))
+  where
+    letter : (k : ℕ) → k < 6 → 87 + (10 + k) ≡ slice_index lower_digits (10 + k)
+    letter zero h = refl
+    letter (suc zero) h = refl
+    letter (suc (suc zero)) h = refl
+    letter (suc (suc (suc zero))) h = refl
+    letter (suc (suc (suc (suc zero)))) h = refl
+    letter (suc (suc (suc (suc (suc zero))))) h = refl
+    letter (suc (suc (suc (suc (suc (suc k)))))) h = absurd (omega (arith, h))
+
+pub ruleset lower_digit_is = (digit_low, digit_high)
+
+-- ---- pieces
 
 encode-append : (t xs ys : List ℕ) → encode_with t (xs ++ ys) ≡ encode_with t xs ++ encode_with t ys
 unfolding encode_with

@@ -1,5 +1,5 @@
 //! The bytes of the columns of generated rows.
-ghost use Rattle.std.specs.Prelude.{◌≡◌, ◌≤◌, ◌+◌, ◌%◌, ◌++◌, IfOk, OnOk};
+ghost use Rattle.std.specs.Prelude.{◌≡◌, ◌≤◌, ◌<◌, ◌+◌, ◌%◌, ◌++◌, length, decimal, IfOk, OnOk};
 ghost use Rattle.std.specs.Int.{w16, w64, to_le_bytes};
 ghost use Rattle.std.specs.List.{flat_map};
 ghost use Rattle.vx_data.specs.declared.ptype.PType.TheVariants.{U32, I64};
@@ -61,15 +61,28 @@ fn name_number(seed: u32, row: u64) -> u64
     (row + u64::from(seed)) % 1000
 }
 
+/// How many digits a number in a name has.
+#[tactic(auto, using(crate::proofs::GeneratedLemmas::digits_many))]
+fn digits_of(number: u64) -> u32
+    requires { number < 1000 }
+    ensures { result ≡ length (decimal number) }
+{
+    if number < 10 {
+        return 1;
+    }
+    if number < 100 {
+        return 2;
+    }
+    3
+}
+
 /// The length of the name of a row.
 #[tactic(auto, using(crate::proofs::GeneratedLemmas::number_short))]
 fn length_bytes(seed: u32, row: u64) -> [u8; 4]
     requires { row ≤ MOST_ROWS }
     ensures { result ≡ length_in (name_of seed row) }
 {
-    let mut digits = Buffer::new();
-    let number = digits.format(name_number(seed, row));
-    (1 + number.len() as u32).to_le_bytes()
+    (1 + digits_of(name_number(seed, row))).to_le_bytes()
 }
 
 /// Adds the name of a row.
@@ -241,7 +254,9 @@ pub(crate) fn generated_bytes(alloc: Global, seed: u32, rows: u64) -> Result<Vec
     requires { rows ≤ MOST_ROWS }
     ensures { IfOk result (λ bytes. bytes.items ≡ array_bytes generated_arrays (generated seed rows)) }
 {
-    let mut bytes = Vec::new(alloc);
+    // at most 4 bytes of an id, 8 of a score and its bit, 4 of a length and 4 of a name, and a few before each column
+    let most = (20 * rows + rows / 8 + 16) as usize;
+    let mut bytes = Vec::with_capacity(alloc, most)?;
     push_index(&mut bytes, 1)?;
     push_ids(&mut bytes, rows)?;
     push_scores(&mut bytes, seed, rows)?;

@@ -9,7 +9,7 @@ use std::marker::Model;
 use vx_base::{Sink, SinkError, write_all, write_flushed};
 
 /// How many bytes the buffer has room for.
-const ROOM: usize = 4096;
+const ROOM: usize = 32_768;
 
 /// A text on its way to a sink, which each call names. After a write that is refused nothing more is
 /// written, and `finish` gives the error.
@@ -28,6 +28,20 @@ impl Model for TextOut {
     ghost view = { λ w. record { held = w.held.items; failure = w.failure } };
 }
 
+/// Hands bytes to the sink, unless a write was refused before.
+#[tactic(auto, using(crate::proofs::TextLemmas::adds_stopped, crate::proofs::TextLemmas::passes_ok, crate::proofs::TextLemmas::passes_err))]
+fn pass<S: Sink>(alloc: Global, failure: &mut Option<SinkError>, out: &mut S, bytes: &[u8])
+    ensures { Adds bytes.now (record { held = []; failure = failure.old }) (S.state out.old) (record { held = []; failure = failure.new }) (S.state out.new) }
+{
+    if failure.is_some() {
+        return;
+    }
+    match write_all(alloc, out, bytes) {
+        Ok(()) => {}
+        Err(error) => *failure = Some(error),
+    }
+}
+
 impl TextOut {
     pub(crate) fn new(alloc: Global) -> TextOut
         ensures { result ≡ new_text }
@@ -40,19 +54,12 @@ impl TextOut {
     }
 
     /// Hands bytes to the sink, behind an empty buffer.
-    #[tactic(auto, using(crate::proofs::TextLemmas::adds_stopped, crate::proofs::TextLemmas::passes_ok, crate::proofs::TextLemmas::passes_err))]
-    fn pass<S: Sink>(&mut self, out: &mut S, bytes: &[u8])
+    fn pass_behind<S: Sink>(&mut self, out: &mut S, bytes: &[u8])
         requires { self.old.held ≡ [] }
         ensures adds { Adds bytes.now self.old (S.state out.old) self.new (S.state out.new) }
         ensures held { self.new.held ≡ [] }
     {
-        if self.failure.is_some() {
-            return;
-        }
-        match write_all(self.alloc, out, bytes) {
-            Ok(()) => {}
-            Err(error) => self.failure = Some(error),
-        }
+        pass(self.alloc, &mut self.failure, out, bytes);
     }
 
     /// Hands what is held to the sink.
@@ -61,12 +68,10 @@ impl TextOut {
         ensures adds { Adds [] self.old (S.state out.old) self.new (S.state out.new) }
         ensures held { self.new.held ≡ [] }
     {
-        if self.failure.is_some() {
-            self.held.clear();
-            return;
+        if self.failure.is_none() {
+            pass(self.alloc, &mut self.failure, out, self.held.as_slice());
         }
-        let held = self.held.take();
-        self.pass(out, held.as_slice());
+        self.held.clear();
     }
 
     /// Adds bytes.
@@ -81,7 +86,7 @@ impl TextOut {
         if self.held.try_extend_from_slice(bytes).is_ok() {
             return;
         }
-        self.pass(out, bytes);
+        self.pass_behind(out, bytes);
     }
 
     /// Adds one byte.
@@ -96,7 +101,7 @@ impl TextOut {
         if self.held.try_push(byte).is_ok() {
             return;
         }
-        self.pass(out, &[byte]);
+        self.pass_behind(out, &[byte]);
     }
 
     /// Adds the digits of a number.

@@ -5,7 +5,8 @@ ghost use Rattle.vx_main.specs.Render.{words, line, hex_text, cause_words, outco
 ghost use Rattle.vx_main.specs.Text.{Adds};
 
 use crate::print::fault::put_fault;
-use crate::print::words::{put_hex, put_line, put_numbers, put_words};
+use crate::print::hexadecimal::put_hex;
+use crate::print::words::{put_line, put_numbers, put_words};
 use crate::text::TextOut;
 use vx_base::Sink;
 use vx_file::{FailCause, Reply, Span, SpanOutcome};

@@ -4,8 +4,9 @@ ghost use Rattle.vx_main.specs.Render.{read_line, reply_text, value_line, values
 ghost use Rattle.vx_main.specs.Text.{Adds};
 
 use crate::print::footer::put_footer;
+use crate::print::hexadecimal::put_hex;
 use crate::print::reply::put_reply;
-use crate::print::words::{put_hex, put_line, put_quoted};
+use crate::print::words::{put_line, put_quoted};
 use crate::printable::Printable;
 use crate::text::TextOut;
 use vx_base::{Sequence, Sink};

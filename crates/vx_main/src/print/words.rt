@@ -1,16 +1,12 @@
-//! Words and numbers, hex and quoted text.
-ghost use Rattle.std.specs.Prelude.{◌≡◌, ◌∷◌, [], ◌++◌, ◌<◌, ◌≤◌, length};
+//! Words and numbers, and quoted text.
+ghost use Rattle.std.specs.Prelude.{◌≡◌, ◌∷◌, [], ◌++◌, ◌<◌};
 ghost use Rattle.std.specs.List.{flat_map, list_all};
-ghost use Rattle.hex.specs.Hex.{encode_lower};
 ghost use Rattle.vx_data.specs.Texts.{quoted, quoted_byte, is_quote_plain, upper_hex_digit};
-ghost use Rattle.vx_main.specs.Render.{numbers_after, words, line, hex_text};
+ghost use Rattle.vx_main.specs.Render.{numbers_after, words, line};
 ghost use Rattle.vx_main.specs.Text.{Adds};
 
 use crate::text::TextOut;
 use vx_base::Sink;
-
-/// How many bytes are spelled in hex at once.
-const PIECE: usize = 8192;
 
 /// Adds numbers, each after a space.
 pub(crate) fn put_numbers<S: Sink>(numbers: &[u64], text: &mut TextOut, out: &mut S)
@@ -36,34 +32,6 @@ pub(crate) fn put_line<S: Sink>(head: &[u8], numbers: &[u64], text: &mut TextOut
 {
     put_words(head, numbers, text, out);
     text.end_line(out);
-}
-
-/// Adds at most so many bytes as lower case digits.
-fn put_hex_piece<S: Sink>(bytes: &[u8], text: &mut TextOut, out: &mut S)
-    requires { length bytes.now ≤ 8192 }
-    ensures { Adds (encode_lower bytes.now) text.old (S.state out.old) text.new (S.state out.new) }
-{
-    let mut digits = [0u8; 2 * PIECE];
-    let room = &mut digits[..2 * bytes.len()];
-    match hex::encode_to_slice(bytes, room) {
-        Ok(()) => text.word(out, room),
-        Err(_) => unreachable!(),
-    }
-}
-
-/// Adds bytes as lower case digits, `-` for none.
-pub(crate) fn put_hex<S: Sink>(bytes: &[u8], text: &mut TextOut, out: &mut S)
-    ensures { Adds (hex_text bytes.now) text.old (S.state out.old) text.new (S.state out.new) }
-{
-    if bytes.is_empty() {
-        return text.word(out, b"-");
-    }
-    let mut rest = bytes;
-    while !rest.is_empty() {
-        let (piece, behind) = rest.split_at(rest.len().min(PIECE));
-        put_hex_piece(piece, text, out);
-        rest = behind;
-    }
 }
 
 fn is_plain(byte: u8) -> bool
