@@ -2,6 +2,10 @@
 use Rattle.std.proofs.Common.{◌≡◌, ℕ, zero, suc, ◌+◌, ◌<◌, ◌≤◌, Bool, true, false, cond, List, [], ◌∷◌, ◌++◌, length, map, drop, Option, Some, None, is_some, refl, ap, sym, ◌∙◌, arith}
 use Rattle.std.specs.Prelude.{slice_index_or, not}
 use Rattle.std.specs.Option.{option_map}
+use Rattle.std.specs.List.{list_all}
+use Rattle.vx_data.specs.declared.ptype.PType.{PType}
+use Rattle.vx_rows.specs.Columns.{Ints, int_row}
+use Rattle.vx_rows.specs.Span.{span}
 use Rattle.std.specs.declared.cmp.Ordering.{Ordering}
 use Rattle.std.specs.declared.cmp.Ordering.TheVariants.{Less, Equal, Greater}
 use Rattle.std.specs.Ordering.{bool_cmp, int_cmp, is_lt, flip_args, ordering_reverse}
@@ -124,6 +128,13 @@ masked_append [] q [] ys e = refl
 masked_append [] q (x ∷ xs) ys e = absurd (omega (arith, e))
 masked_append (here ∷ p) q [] ys e = absurd (omega (arith, e))
 masked_append (here ∷ p) q (x ∷ xs) ys e = ap (λ rows. cond here x None ∷ rows) (masked_append p q xs ys (omega (arith, e)))
+
+pub masked_all : {A : Type 0} → (present : List Bool) (rows : List (Option A)) → list_all (λ b. b) present ≡ true → length present ≡ length rows → masked present rows ≡ rows
+masked_all [] [] all e = refl
+masked_all [] (row ∷ rows) all e = absurd (omega (arith, e))
+masked_all (here ∷ present) [] all e = absurd (omega (arith, e))
+masked_all (true ∷ present) (row ∷ rows) all e = ap (λ xs. row ∷ xs) (masked_all present rows all (omega (arith, e)))
+masked_all (false ∷ present) (row ∷ rows) all e = absurd (false≢true all)
 
 -- ---- what columns behind one another tell
 
@@ -285,3 +296,10 @@ pub unset : (stat : Stat) (s : Stats) → stat_in stat s ≡ None → s ≡ with
 unset Min s h = ap (λ (m : Option (Value × Precision)). record { min = m; max = s.max; null_count = s.null_count }) h
 unset Max s h = ap (λ (m : Option (Value × Precision)). record { min = s.min; max = m; null_count = s.null_count }) h
 unset NullCount s h = ap (λ (m : Option (Value × Precision)). record { min = s.min; max = s.max; null_count = m }) h
+
+-- ---- integers of which none is null
+
+pub plain_summary : (p : PType) (b : List ℕ) (at : ℕ) (c : Ints) (present : List Bool) (s : Summary) → c.ptype ≡ p → length present ≡ length c.rows → list_all (λ b. b) present ≡ true
+    → c.rows ≡ span (int_row c.ptype None b at) 0 (length c.rows) → s ≡ summary_by number int_cmp (span (int_row p None b at) 0 (length c.rows)) → s ≡ summary present (ints c)
+plain_summary p b at c present s typed long all rows tells =
+    tells ∙ ap (summary_by number int_cmp) (ap (λ q. span (int_row q None b at) 0 (length c.rows)) (sym typed) ∙ sym rows ∙ sym (masked_all present c.rows all long))

@@ -172,7 +172,7 @@ taken (x ∷ xs) zero e = cc
 taken (x ∷ xs) (suc n) e = ap (λ ys. x ∷ ys) (taken xs n (omega (arith, e)))
 
 -- a part of a front
-part-of-front : (xs ys : List ℕ) (i j : ℕ) → i ≤ j → j ≤ length xs → slice_range (xs ++ ys) i j ≡ slice_range xs i j
+pub part-of-front : (xs ys : List ℕ) (i j : ℕ) → i ≤ j → j ≤ length xs → slice_range (xs ++ ys) i j ≡ slice_range xs i j
 part-of-front xs ys i j o h =
     let size = length-drop i xs in
     ap (take (j - i)) (drop-append-le i xs ys (omega (arith, o, h))) ∙ take-append-le (j - i) (drop i xs) ys (omega (arith, o, h, size))

@@ -10,9 +10,9 @@ use Rattle.std.proofs.Math.Nat.{min-eq_left, min-eq_right, mul-le-mul_left}
 use Rattle.vx_data.specs.declared.ptype.PType.{PType}
 use Rattle.vx_rows.specs.Span.{span, every}
 use Rattle.vx_rows.specs.Bits.{present_at}
-use Rattle.vx_rows.specs.Columns.{Bools, Ints, Texts, Structs, bool_row, is_false_row, int_row, is_clear, raw_at, value_of, width, value_size, value_place, text_row, AreRanges, AreTexts, may_hold, are_there}
+use Rattle.vx_rows.specs.Columns.{Bools, Ints, Structs, bool_row, is_false_row, int_row, is_clear, raw_at, value_of, width, value_size, value_place, text_row, AreRanges, AreTexts, may_hold, are_there}
 use Rattle.vx_rows.specs.Rows.{AreWithin}
-use Rattle.vx_rows.specs.ReadRows.{more_bools, more_texts}
+use Rattle.vx_rows.specs.ReadRows.{more_bools}
 use Rattle.vx_rows.specs.Written.{is_within, cell}
 use Rattle.vx_rows.specs.Kept.{kept}
 use Rattle.vx_rows.proofs.SpanLemmas.{span_same, every_all, every_holds}
@@ -55,21 +55,6 @@ module _ (c : Bools) (rows : List (Option Bool)) where
 
   pub bools_all : (n : ℕ) → length rows ≤ n → bools_upto n ≡ record { nullable = c.nullable; rows = c.rows ++ rows }
   bools_all n l = ap (λ (xs : List (Option Bool)). record { nullable = c.nullable; rows = c.rows ++ xs }) (take_all n rows l)
-
-module _ (c : Texts) (rows : List (Option (List ℕ))) where
-  abbrev pub texts_upto : ℕ → Texts
-  texts_upto n = record { nullable = c.nullable; rows = c.rows ++ take n rows }
-
-  pub texts_next : (i : ℕ) → i < length rows → more_texts (texts_upto i) (slice_index_or rows i None) ≡ texts_upto (i + 1)
-  texts_next i l =
-      ap (λ (xs : List (Option (List ℕ))). record { nullable = c.nullable; rows = xs })
-      (append_assoc c.rows (take i rows) (slice_index_or rows i None ∷ []) ∙ ap (λ xs. c.rows ++ xs) (sym (take_more rows i None l)))
-
-  pub texts_none : texts_upto 0 ≡ c
-  texts_none = ap (λ (xs : List (Option (List ℕ))). record { nullable = c.nullable; rows = xs }) (append-nil c.rows)
-
-  pub texts_all : (n : ℕ) → length rows ≤ n → texts_upto n ≡ record { nullable = c.nullable; rows = c.rows ++ rows }
-  texts_all n l = ap (λ (xs : List (Option (List ℕ))). record { nullable = c.nullable; rows = c.rows ++ xs }) (take_all n rows l)
 
 -- ---- integers, all at once
 

@@ -12,7 +12,7 @@ use Rattle.vx_rows.specs.Builders.{builder_view, pairs_view}
 use Rattle.vx_rows.specs.Parts.{part, field_parts, appended, Keeps, FieldsKeep}
 use Rattle.vx_rows.proofs.BuildingLemmas.{Field}
 use Rattle.vx_rows.proofs.ColumnLaws.{all-kept, all-kept-fields, front-kept, column_rows, rows_are, appended_is_column, part_is_column, part_type, appended_type}
-use Rattle.vx_rows.proofs.JoinLemmas.{bools_upto, texts_upto}
+use Rattle.vx_rows.proofs.JoinLemmas.{bools_upto}
 use Rattle.vx_rows.proofs.FieldGrowLemmas.{kept_set, rows_at}
 
 pub keep_same : (c d : Rows) → d ≡ c → Keeps c d
@@ -29,9 +29,12 @@ bools_keep c rows k d e = record {
   front = λ n h. ap (λ (x : Bools). part 0 n (bools x)) e ∙ ap (λ (xs : List (Option Bool)). bools (record { nullable = c.nullable; rows = xs })) (front-kept c.rows (take k rows) n h);
 }
 
-pub texts_keep : (c : Texts) (rows : List (Option (List ℕ))) (k : ℕ) (d : Texts) → d ≡ texts_upto c rows k → Keeps (texts c) (texts d)
-texts_keep c rows k d e = record {
-  front = λ n h. ap (λ (x : Texts). part 0 n (texts x)) e ∙ ap (λ (xs : List (Option (List ℕ))). texts (record { nullable = c.nullable; rows = xs })) (front-kept c.rows (take k rows) n h);
+pub texts_same : (c d : Texts) → d ≡ c → Keeps (texts c) (texts d)
+texts_same c d e = keep_same (texts c) (texts d) (ap texts e)
+
+pub texts_keep : (c : Texts) (rows : List (Option (List ℕ))) (d : Texts) → d ≡ record { nullable = c.nullable; rows = c.rows ++ rows } → Keeps (texts c) (texts d)
+texts_keep c rows d e = record {
+  front = λ n h. ap (λ (x : Texts). part 0 n (texts x)) e ∙ ap (λ (xs : List (Option (List ℕ))). texts (record { nullable = c.nullable; rows = xs })) (front-kept c.rows rows n h);
 }
 
 pub ints_keep : (c : Ints) (rows : List (Option ℤ)) (d : Ints) → d ≡ record { ptype = c.ptype; nullable = c.nullable; rows = c.rows ++ rows } → Keeps (ints c) (ints d)

@@ -1,6 +1,7 @@
 pub mod SpanLemmas
 pub mod IntLemmas
 pub mod TextLemmas
+pub mod TextOrderLemmas
 pub mod AsciiLemmas
 pub mod TreeLemmas
 pub mod TypedLemmas
@@ -12,6 +13,7 @@ pub mod EncodedLemmas
 pub mod WrittenLemmas
 pub mod CopyLemmas
 pub mod ValueLemmas
+pub mod VerdictLemmas
 pub mod TextRowLemmas
 pub mod BackLemmas
 pub mod TextBackLemmas
@@ -41,3 +43,5 @@ pub mod KeepLemmas
 pub mod PlaceLemmas
 pub mod FieldRowLemmas
 pub mod EvaluatedLemmas
+pub mod BehindLemmas
+pub mod PlacesLemmas

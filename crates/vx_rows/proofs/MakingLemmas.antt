@@ -1,6 +1,6 @@
 -- The rows of columns that are made of values.
 use Rattle.std.proofs.Common.{◌≡◌, ℕ, zero, suc, ◌+◌, ◌<◌, Bool, true, false, cond, List, [], ◌∷◌, map, length, Option, Some, None, is_some, unwrap_or, refl, ap, sym, ◌∙◌, subst, arith}
-use Rattle.std.specs.Prelude.{slice_index_or, ◌||◌, not}
+use Rattle.std.specs.Prelude.{slice_index_or, replicate, ◌||◌, not}
 use Rattle.std.specs.List.{list_all}
 use Rattle.vx_rows.specs.Span.{span, every}
 use Rattle.vx_rows.specs.Bits.{bit, present_at}
@@ -18,6 +18,14 @@ span_list d (x ∷ xs) = ap (λ ys. x ∷ ys) (shifted 0 (length xs) ∙ span_li
     shifted k (suc n) =
         let e : k + 1 ≡ suc k = omega arith in
         ap (λ y. y ∷ span (λ i. slice_index_or (x ∷ xs) i d) (k + 1 + 1) n) (ap (λ j. slice_index_or (x ∷ xs) j d) e) ∙ ap (λ ys. slice_index_or xs k d ∷ ys) (shifted (k + 1) n)
+
+-- without bits each row is there
+pub all_there : (present : Option (List Bool)) (k n : ℕ) → present ≡ None → span (present_at present) k n ≡ replicate n true
+all_there present k n e = ap (λ p. span (present_at p) k n) e ∙ each k n
+  where
+    each : (k n : ℕ) → span (present_at None) k n ≡ replicate n true
+    each k zero = refl
+    each k (suc n) = ap (λ xs. true ∷ xs) (each (k + 1) n)
 
 pub map_long : {A B : Type 0} → (f : A → B) (xs : List A) → length (map f xs) ≡ length xs
 map_long f [] = refl

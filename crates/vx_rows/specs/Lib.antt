@@ -7,6 +7,7 @@ pub mod Trees
 pub mod Written
 pub mod Encoded
 pub mod ValueTexts
+pub mod Verdicts
 pub mod ReadValues
 pub mod ReadRows
 pub mod Kept
@@ -26,3 +27,4 @@ pub mod Bounds
 pub mod Operands
 pub mod Fields
 pub mod LayoutReaders
+pub mod TextsBehind

@@ -54,6 +54,10 @@ present_at a row = Some (not (is_null (operand_at a row)))
 abbrev pub true_at : Operand → ℕ → Bool
 true_at a row = is_true (to_truth (operand_at a row))
 
+-- the same of truth values
+abbrev pub is_true_in : List (Option Bool) → ℕ → Bool
+is_true_in truths row = is_true (to_truth (bool_cell (slice_index_or truths row None)))
+
 -- an operand is what a predicate is at each row of a column
 pub record IsValueOf (p : Pred) (d : Dtype) (c : Rows) (v : Operand) : Type 0 where
   pub same : (row : ℕ) → row < rows_len c → operand_at v row ≡ value_at p d (row_in c row)

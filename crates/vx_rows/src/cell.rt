@@ -87,7 +87,7 @@ pub fn of_row(column: &Column, row: usize) -> Cell<'_>
 
 /// Whether a comparison holds of values in this order.
 #[inline(always)]
-fn is_met(op: Comparison, order: Ordering) -> bool
+pub fn is_met(op: Comparison, order: Ordering) -> bool
     ensures { result ≡ meets op order }
 {
     match op {

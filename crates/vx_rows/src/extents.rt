@@ -1,16 +1,22 @@
 //! The least and the greatest value of the rows of a column, and how many of them are null.
-ghost use Rattle.std.specs.Prelude.{◌≡◌, ◌<◌, length, slice_index_or, not, is_some, if◌then◌else◌, None, IfOk, map};
+ghost use Rattle.std.specs.Prelude.{◌≡◌, ◌<◌, ◌≤◌, length, slice_index_or, not, is_some, if◌then◌else◌, Some, None, IfOk, map};
 ghost use Rattle.std.specs.Option.{option_map};
-ghost use Rattle.std.specs.Ordering.{bool_cmp, int_cmp};
+ghost use Rattle.std.specs.Ordering.{bool_cmp, int_cmp, is_lt};
 ghost use Rattle.vx_data.specs.Scalar.{scalar_view, flag, number, words};
 ghost use Rattle.vx_rows.specs.Rows.{bools, ints, texts, structs, rows_len, column_view, columns_view};
-ghost use Rattle.vx_rows.specs.RowStats.{lesser_of, greater_of, masked, there, text_cmp, value_cmp, summary};
+ghost use Rattle.vx_rows.specs.Span.{span};
+ghost use Rattle.vx_rows.specs.Columns.{value_place, int_row};
+ghost use Rattle.vx_rows.specs.RowStats.{lesser_of, greater_of, masked, there, text_cmp, value_cmp, summary, summary_by};
 
+use crate::int_column::plain_row;
 use crate::{BoolColumn, Column, Columns, IntColumn, Mask, StructRows, TextColumn};
 use std::alloc::{AllocError, Global};
 use std::cmp::Ordering;
 use std::marker::Model;
 use vx_data::{PType, Scalar};
+
+/// How many bytes of two texts are compared one by one.
+const FIRST_BYTES: usize = 4;
 
 /// The least and the greatest value of rows, and how many rows are null.
 #[derive(Drop)]
@@ -52,24 +58,61 @@ fn greater_flag(a: Option<bool>, b: Option<bool>) -> Option<bool>
     if second && !first { b } else { a }
 }
 
-#[inline(always)]
-fn lesser_number(a: Option<i128>, b: Option<i128>) -> Option<i128>
-    ensures { result ≡ lesser_of int_cmp a b }
-{
-    let (Some(first), Some(second)) = (a, b) else {
-        return a.or(b);
-    };
-    if second < first { b } else { a }
+/// The least and the greatest of some integers.
+#[derive(Clone, Copy)]
+struct Ends {
+    least: i128,
+    greatest: i128,
 }
 
+/// The ends of integers and one more. The first of them is both.
 #[inline(always)]
-fn greater_number(a: Option<i128>, b: Option<i128>) -> Option<i128>
-    ensures { result ≡ greater_of int_cmp a b }
+fn widened(ends: Option<Ends>, value: i128) -> Ends
+    ensures least { Some result.least ≡ lesser_of int_cmp (option_map (λ e. e.least) ends) (Some value) }
+    ensures greatest { Some result.greatest ≡ greater_of int_cmp (option_map (λ e. e.greatest) ends) (Some value) }
 {
-    let (Some(first), Some(second)) = (a, b) else {
-        return a.or(b);
+    let Some(Ends { least, greatest }) = ends else {
+        return Ends {
+            least: value,
+            greatest: value,
+        };
     };
-    if second > first { b } else { a }
+    Ends {
+        least: if value < least { value } else { least },
+        greatest: if value > greatest { value } else { greatest },
+    }
+}
+
+/// The ends of integers and of a row, which may have none.
+#[inline(always)]
+fn with_row(ends: Option<Ends>, row: Option<i128>) -> Option<Ends>
+    ensures least { option_map (λ e. e.least) result ≡ lesser_of int_cmp (option_map (λ e. e.least) ends) row }
+    ensures greatest { option_map (λ e. e.greatest) result ≡ greater_of int_cmp (option_map (λ e. e.greatest) ends) row }
+{
+    match row {
+        None => ends,
+        Some(value) => Some(widened(ends, value)),
+    }
+}
+
+/// Whether a text comes before another. Mostly one of the first bytes tells, which takes no call.
+#[inline(always)]
+fn is_before(a: &str, b: &str) -> bool
+    ensures { result ≡ is_lt (text_cmp a.now b.now) }
+{
+    let (first, second) = (a.as_bytes(), b.as_bytes());
+    for i in 0..FIRST_BYTES {
+        if i >= second.len() {
+            return false;
+        }
+        if i >= first.len() {
+            return true;
+        }
+        if first[i] != second[i] {
+            return first[i] < second[i];
+        }
+    }
+    a.cmp(b).is_lt()
 }
 
 #[inline(always)]
@@ -79,7 +122,7 @@ fn lesser_text<'a>(a: Option<&'a str>, b: Option<&'a str>) -> Option<&'a str>
     let (Some(first), Some(second)) = (a, b) else {
         return a.or(b);
     };
-    if second.cmp(first).is_lt() { b } else { a }
+    if is_before(second, first) { b } else { a }
 }
 
 #[inline(always)]
@@ -89,7 +132,7 @@ fn greater_text<'a>(a: Option<&'a str>, b: Option<&'a str>) -> Option<&'a str>
     let (Some(first), Some(second)) = (a, b) else {
         return a.or(b);
     };
-    if first.cmp(second).is_lt() { b } else { a }
+    if is_before(first, second) { b } else { a }
 }
 
 /// How two values of one kind compare; values of different kinds compare as equal.
@@ -166,11 +209,20 @@ fn as_flag(value: Option<bool>) -> Option<Scalar>
     }
 }
 
-fn as_number(value: Option<i128>) -> Option<Scalar>
-    ensures { option_map scalar_view result ≡ option_map number value }
+fn least_number(ends: Option<Ends>) -> Option<Scalar>
+    ensures { option_map scalar_view result ≡ option_map number (option_map (λ e. e.least) ends) }
 {
-    match value {
-        Some(value) => Some(Scalar::Int(value)),
+    match ends {
+        Some(ends) => Some(Scalar::Int(ends.least)),
+        None => None,
+    }
+}
+
+fn greatest_number(ends: Option<Ends>) -> Option<Scalar>
+    ensures { option_map scalar_view result ≡ option_map number (option_map (λ e. e.greatest) ends) }
+{
+    match ends {
+        Some(ends) => Some(Scalar::Int(ends.greatest)),
         None => None,
     }
 }
@@ -251,6 +303,44 @@ fn extent_of_flags(column: &BoolColumn, present: &Mask) -> Extent
     }
 }
 
+/// Integers of a type, of which none is null.
+#[inline(always)]
+fn extent_of_plain(ptype: PType, bytes: &[u8], at: usize, count: usize) -> Extent
+    requires { value_place ptype at count ≤ length bytes.now }
+    ensures { result ≡ summary_by number int_cmp (span (int_row ptype None bytes.now at) 0 count) }
+{
+    let mut ends = None;
+    for row in 0..count {
+        ends = with_row(ends, plain_row(ptype, bytes, at, count, row));
+    }
+    Extent {
+        min: least_number(ends),
+        max: greatest_number(ends),
+        nulls: 0,
+    }
+}
+
+/// Integers of a type, of which some may be null or not present.
+#[inline(always)]
+fn extent_of_nullable(ptype: PType, column: &IntColumn, present: &Mask) -> Extent
+    requires typed { column.now.ptype ≡ ptype }
+    requires long { length present.now ≡ length column.now.rows }
+    ensures { result ≡ summary present.now (ints column.now) }
+{
+    let mut ends = None;
+    let mut nulls = 0;
+    for row in 0..column.len() {
+        let value = number_at(ptype, column, present, row);
+        ends = with_row(ends, value);
+        nulls += null_of(value);
+    }
+    Extent {
+        min: least_number(ends),
+        max: greatest_number(ends),
+        nulls,
+    }
+}
+
 /// Integers of a type. Each call is compiled for its type.
 #[inline(always)]
 fn extent_of_kind(ptype: PType, column: &IntColumn, present: &Mask) -> Extent
@@ -258,20 +348,13 @@ fn extent_of_kind(ptype: PType, column: &IntColumn, present: &Mask) -> Extent
     requires long { length present.now ≡ length column.now.rows }
     ensures { result ≡ summary present.now (ints column.now) }
 {
-    let mut min = None;
-    let mut max = None;
-    let mut nulls = 0;
-    for row in 0..column.len() {
-        let value = number_at(ptype, column, present, row);
-        min = lesser_number(min, value);
-        max = greater_number(max, value);
-        nulls += null_of(value);
+    if !present.are_all() {
+        return extent_of_nullable(ptype, column, present);
     }
-    Extent {
-        min: as_number(min),
-        max: as_number(max),
-        nulls,
-    }
+    let Some((bytes, at)) = column.plain_values() else {
+        return extent_of_nullable(ptype, column, present);
+    };
+    extent_of_plain(ptype, bytes, at, column.len())
 }
 
 /// Integers.

@@ -94,7 +94,7 @@ fn append_to(alloc: Global, builder: &mut Builder, column: &Column) -> Result<()
     match (builder, column) {
         (Builder::Bool(rows), Column::Bool(column)) => rows.append(column),
         (Builder::Int(rows), Column::Int(column)) => rows.append(alloc, column),
-        (Builder::Text(rows), Column::Text(column)) => rows.append(column),
+        (Builder::Text(rows), Column::Text(column)) => rows.append(alloc, column),
         (Builder::Struct(rows, builders), Column::Struct(structs, columns)) => {
             append_structs(alloc, rows, builders, structs, columns)
         }

@@ -168,6 +168,17 @@ pub fn value_at(ptype: PType, bytes: &[u8], at: usize) -> i128
     }
 }
 
+/// One of so many rows, of which none is null, where the values begin at a byte.
+#[inline(always)]
+#[tactic(auto, using(crate::proofs::IntLemmas::place_inside, crate::proofs::IntLemmas::place_bound))]
+pub fn plain_row(ptype: PType, bytes: &[u8], at: usize, rows: usize, row: usize) -> Option<i128>
+    requires inside { value_place ptype at rows ≤ length bytes.now }
+    requires less { row < rows }
+    ensures { result ≡ int_row ptype None bytes.now at row }
+{
+    Some(value_at(ptype, bytes, place_of(ptype, at, row)))
+}
+
 /// Whether the bytes of a value are all 0.
 #[inline(always)]
 pub fn is_zero(ptype: PType, bytes: &[u8], at: usize) -> bool
@@ -332,6 +343,18 @@ impl IntColumn {
         ensures { result ≡ slice_index_or self.now.rows row None }
     {
         self.get_of(self.kind, row)
+    }
+
+    /// The bytes that hold the values, and where those begin. None where a bitmap tells which rows are null.
+    #[tactic(auto, using(crate::proofs::SpanLemmas::length_span))]
+    pub(crate) fn plain_values(&self) -> Option<(&[u8], usize)>
+        ensures inside { IfSome result (λ plain. value_place self.now.ptype plain.1 (length self.now.rows) ≤ length plain.0.now) }
+        ensures rows { IfSome result (λ plain. self.now.rows ≡ span (int_row self.now.ptype None plain.0.now plain.1) 0 (length self.now.rows)) }
+    {
+        match &self.present {
+            None => Some((self.held.as_slice(), self.at)),
+            Some(_) => None,
+        }
     }
 
     /// Adds the bytes of the rows.

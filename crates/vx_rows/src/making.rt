@@ -9,6 +9,7 @@ ghost use Rattle.std.specs.Option.{option_map};
 ghost use Rattle.vx_rows.specs.Rows.{bools, ints, texts, structs, column_view, pairs_view, AllHaveRows};
 
 use crate::cells::cells_of;
+use crate::text_places::TextPlaces;
 use crate::{Bits, BoolColumn, Column, Columns, IntColumn, StructRows, TextColumn};
 use std::alloc::{AllocError, Global};
 use vx_base::{Alignment, ByteBuffer};
@@ -93,12 +94,12 @@ fn push_text(bytes: &mut Vec<u8>, text: &Option<String>) -> Result<(), AllocErro
 }
 
 /// The bytes of texts, one behind the other, and their places, and the place behind the last.
-fn gather(alloc: Global, values: &[Option<String>]) -> Result<(Vec<u8>, Vec<usize>), AllocError>
+fn gather(alloc: Global, values: &[Option<String>]) -> Result<(Vec<u8>, TextPlaces), AllocError>
     ensures bytes { IfOk result (λ x. x.0.items ≡ flat_map text_bytes (texts_of values.now)) }
-    ensures places { IfOk result (λ x. x.1.items ≡ span (text_place (texts_of values.now)) 0 (length values.now + 1)) }
+    ensures places { IfOk result (λ x. x.1 ≡ span (text_place (texts_of values.now)) 0 (length values.now + 1)) }
 {
     let mut bytes = Vec::new(alloc);
-    let mut places = Vec::new(alloc);
+    let mut places = TextPlaces::with_capacity(alloc, values.len())?;
     places.push(0)?;
     for value in values {
         push_text(&mut bytes, value)?;

@@ -1,5 +1,6 @@
 //! A choice of rows.
 ghost use Rattle.std.specs.Prelude.{◌≡◌, ◌<◌, ◌==◌, length, slice_index_or, true};
+ghost use Rattle.std.specs.List.{list_all};
 
 use std::marker::Model;
 
@@ -45,5 +46,18 @@ impl Mask {
         ensures { result ≡ slice_index_or self.now at true }
     {
         self.bits[at]
+    }
+
+    /// Whether each row is chosen.
+    #[tactic(auto, using(crate::proofs::WrittenLemmas::next_flag))]
+    pub(crate) fn are_all(&self) -> bool
+        ensures { result ≡ list_all (λ b. b) self.now }
+    {
+        for row in 0..self.len() {
+            if !self.get(row) {
+                return false;
+            }
+        }
+        true
     }
 }

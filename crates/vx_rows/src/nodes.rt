@@ -2,17 +2,18 @@
 ghost use Rattle.std.specs.Prelude.{◌≡◌, IfOk};
 ghost use Rattle.vx_rows.specs.Span.{span};
 ghost use Rattle.vx_rows.specs.Truth.{kleene_and, kleene_or, kleene_not, is_true as holds};
-ghost use Rattle.vx_rows.specs.Operands.{compared_at, summed_at, and_at, or_at, not_at, null_at, present_at, true_at};
+ghost use Rattle.vx_rows.specs.Operands.{compared_at, summed_at, and_at, or_at, not_at, null_at, present_at, true_at, is_true_in};
 
 use crate::cell::{add, compare, is_null, truth_of};
+use crate::comparing::{Verdict, compare_literal};
 use crate::kind::Kind;
 use crate::operand::Operand;
 use crate::{BindError, Comparison};
 use std::alloc::{AllocError, Global};
 
-/// A comparison at each of so many rows.
+/// A comparison at each of so many rows, whatever the operands are.
 #[tactic(auto, using(crate::proofs::SpanLemmas::span_push))]
-pub fn compare_rows(
+fn compare_cells(
     alloc: Global,
     op: Comparison,
     a: &Operand,
@@ -26,6 +27,26 @@ pub fn compare_rows(
         truths.push(compare(op, a.at(row), b.at(row)))?;
     }
     Ok(truths)
+}
+
+/// A comparison at each of so many rows. Mostly a column is compared with a literal, on either side.
+pub fn compare_rows(
+    alloc: Global,
+    op: Comparison,
+    a: &Operand,
+    b: &Operand,
+    count: usize,
+) -> Result<Vec<Option<bool>>, AllocError>
+    ensures { IfOk result (λ truths. truths.items ≡ span (compared_at op a.now b.now) 0 count) }
+{
+    let verdict = Verdict::of(op);
+    if let Some(truths) = compare_literal(alloc, verdict, a, b, count)? {
+        return Ok(truths);
+    }
+    if let Some(truths) = compare_literal(alloc, verdict.turned(), b, a, count)? {
+        return Ok(truths);
+    }
+    Ok(compare_cells(alloc, op, a, b, count)?)
 }
 
 /// A sum at each of so many rows.
@@ -171,9 +192,36 @@ pub fn present_rows(
     Ok(truths)
 }
 
-/// Whether each of so many rows is true.
+/// Whether a truth value is there and true.
+#[inline(always)]
+fn is_true_at(truths: &[Option<bool>], row: usize) -> bool
+    ensures { result ≡ is_true_in truths.now row }
+{
+    match truths.get(row) {
+        Some(Some(b)) => *b,
+        _ => false,
+    }
+}
+
+/// Whether each of so many truth values is true.
 #[tactic(auto, using(crate::proofs::SpanLemmas::span_push))]
-pub fn true_rows(alloc: Global, a: &Operand, count: usize) -> Result<Vec<bool>, AllocError>
+fn true_truths(
+    alloc: Global,
+    truths: &[Option<bool>],
+    count: usize,
+) -> Result<Vec<bool>, AllocError>
+    ensures { IfOk result (λ bits. bits.items ≡ span (is_true_in truths.now) 0 count) }
+{
+    let mut bits = Vec::with_capacity(alloc, count)?;
+    for row in 0..count {
+        bits.push(is_true_at(truths, row))?;
+    }
+    Ok(bits)
+}
+
+/// Whether each of so many rows is true, whatever the operand is.
+#[tactic(auto, using(crate::proofs::SpanLemmas::span_push))]
+fn true_cells(alloc: Global, a: &Operand, count: usize) -> Result<Vec<bool>, AllocError>
     ensures { IfOk result (λ bits. bits.items ≡ span (true_at a.now) 0 count) }
 {
     let mut bits = Vec::with_capacity(alloc, count)?;
@@ -181,4 +229,16 @@ pub fn true_rows(alloc: Global, a: &Operand, count: usize) -> Result<Vec<bool>, 
         bits.push(is_true(truth_of(a.at(row))))?;
     }
     Ok(bits)
+}
+
+/// Whether each of so many rows is true. Mostly a node has told truth values.
+pub fn true_rows(alloc: Global, a: &Operand, count: usize) -> Result<Vec<bool>, AllocError>
+    ensures { IfOk result (λ bits. bits.items ≡ span (true_at a.now) 0 count) }
+{
+    match a {
+        Operand::Truths(truths) => Ok(true_truths(alloc, truths, count)?),
+        Operand::Value(_) | Operand::Rows(_, _) | Operand::Numbers(_) => {
+            Ok(true_cells(alloc, a, count)?)
+        }
+    }
 }

@@ -1,10 +1,12 @@
 //! The operands of predicates, column by column.
-ghost use Rattle.std.specs.Prelude.{◌≡◌, None, slice_index_or};
+ghost use Rattle.std.specs.Prelude.{◌≡◌, ℕ, None, IfSome, slice_index_or};
+ghost use Rattle.vx_data.specs.Scalar.{number, words};
+ghost use Rattle.vx_rows.specs.RowValues.{value, int_cell, text_cell};
 ghost use Rattle.vx_rows.specs.CellViews.{cell_view};
 ghost use Rattle.vx_rows.specs.Operands.{operand_at, is_shown as shown_at};
 
 use crate::cell::{Cell, of_number, of_row, of_truth};
-use crate::{Column, Mask};
+use crate::{Column, IntColumn, Mask, TextColumn};
 
 /// What a node of a predicate is at each row.
 #[derive(Drop)]
@@ -64,6 +66,46 @@ impl<'a> Operand<'a> {
             }
             Operand::Numbers(values) => of_number(number_at(values, row)),
             Operand::Truths(values) => of_truth(truth_at(values, row)),
+        }
+    }
+
+    /// The rows of a column of integers, of which none is hidden.
+    pub fn numbers(&self) -> Option<&IntColumn>
+        ensures { IfSome result (λ c. (row : ℕ) → operand_at self.now row ≡ int_cell (slice_index_or c.now.rows row None)) }
+    {
+        match self {
+            Operand::Rows(Column::Int(values), None) => Some(values),
+            _ => None,
+        }
+    }
+
+    /// The rows of a column of texts, of which none is hidden.
+    pub fn texts(&self) -> Option<&TextColumn>
+        ensures { IfSome result (λ c. (row : ℕ) → operand_at self.now row ≡ text_cell (slice_index_or c.now.rows row None)) }
+    {
+        match self {
+            Operand::Rows(Column::Text(values), None) => Some(values),
+            _ => None,
+        }
+    }
+
+    /// The integer that stands at each row.
+    pub fn number(&self) -> Option<i128>
+        ensures { IfSome result (λ n. (row : ℕ) → operand_at self.now row ≡ value (number n)) }
+    {
+        match self {
+            Operand::Value(Cell::Int(n)) => Some(*n),
+            _ => None,
+        }
+    }
+
+    /// The text that stands at each row.
+    pub fn text(&self) -> Option<&str>
+        ensures { IfSome result (λ t. (row : ℕ) → operand_at self.now row ≡ value (words t.now)) }
+    {
+        match self {
+            Operand::Value(Cell::Text(t)) => Some(t),
+            _ => None,
         }
     }
 }

@@ -39,11 +39,14 @@ pub fn are_all_present(present: &Option<Bits>) -> bool
 }
 
 /// Which of so many rows have a value. Only memory refuses.
-#[tactic(auto, using(crate::proofs::SpanLemmas::span_push))]
+#[tactic(auto, using(crate::proofs::SpanLemmas::span_push, crate::proofs::MakingLemmas::all_there))]
 pub fn flags_of(alloc: Global, present: &Option<Bits>, rows: usize) -> Result<Vec<bool>, AllocError>
     requires { IfSome present.now (λ bits. length bits ≡ rows) }
     ensures { IfOk result (λ flags. flags.items ≡ span (present_at present.now) 0 rows) }
 {
+    if present.is_none() {
+        return vec![in alloc; true; rows];
+    }
     let mut flags = Vec::with_capacity(alloc, rows)?;
     for row in 0..rows {
         flags.push(has_value(present, row))?;

@@ -14,6 +14,7 @@ ghost use Rattle.vx_rows.specs.ReadRows.{more_texts, null_or};
 use crate::TextColumn;
 use crate::flags::Flags;
 use crate::plain_size::{rows_between, size_of_texts};
+use crate::text_places::TextPlaces;
 use crate::value_reading::{read_null, read_plain};
 use std::alloc::{AllocError, Global};
 use std::marker::Model;
@@ -25,7 +26,7 @@ use vx_data::{TextError, read_quoted};
 pub struct TextBuilder {
     present: Flags,
     bytes: Vec<u8>,
-    places: Vec<usize>,
+    places: TextPlaces,
 }
 
 impl Model for TextBuilder {
@@ -38,20 +39,20 @@ impl Model for TextBuilder {
 
     ghost view = { λ b. record {
       nullable = b.present.nullable;
-      rows = span (text_row (kept b.present) b.bytes.items b.places.items) 0 (length b.present.present);
+      rows = span (text_row (kept b.present) b.bytes.items b.places) 0 (length b.present.present);
     } };
 
-    ghost invariant = { λ b. (length b.places.items ≡ length b.present.present + 1)
-        × (slice_index b.places.items (length b.present.present) ≡ length b.bytes.items)
-        × AreRanges b.bytes.items b.places.items (length b.present.present)
-        × AreTexts b.bytes.items b.places.items (length b.present.present) };
+    ghost invariant = { λ b. (length b.places ≡ length b.present.present + 1)
+        × (slice_index b.places (length b.present.present) ≡ length b.bytes.items)
+        × AreRanges b.bytes.items b.places (length b.present.present)
+        × AreTexts b.bytes.items b.places (length b.present.present) };
 }
 
 /// Adds a text and the place behind it. Where memory refuses, nothing changes.
-fn push_text(bytes: &mut Vec<u8>, places: &mut Vec<usize>, value: &str) -> Result<(), AllocError>
+fn push_text(bytes: &mut Vec<u8>, places: &mut TextPlaces, value: &str) -> Result<(), AllocError>
     ensures bytes { OnOk result (bytes.new.items ≡ bytes.old.items ++ value.now) }
-    ensures places { OnOk result (places.new.items ≡ places.old.items ++ length bytes.new.items ∷ []) }
-    ensures err { OnErr result ((bytes.new.items ≡ bytes.old.items) × (places.new.items ≡ places.old.items)) }
+    ensures places { OnOk result (places.new ≡ places.old ++ length bytes.new.items ∷ []) }
+    ensures err { OnErr result ((bytes.new.items ≡ bytes.old.items) × (places.new ≡ places.old)) }
 {
     let before = bytes.len();
     bytes.extend_from_slice(value.as_bytes())?;
@@ -64,20 +65,12 @@ fn push_text(bytes: &mut Vec<u8>, places: &mut Vec<usize>, value: &str) -> Resul
     }
 }
 
-/// The place of a row.
-fn place_at(places: &[usize], row: usize) -> usize
-    requires { row < length places.now }
-    ensures { result ≡ slice_index places.now row }
-{
-    places[row]
-}
-
 impl TextBuilder {
     /// No rows. Only memory refuses.
     pub fn new(alloc: Global, may_be_null: bool) -> Result<TextBuilder, AllocError>
         ensures { IfOk result (λ b. b ≡ record { nullable = may_be_null; rows = [] }) }
     {
-        let mut places = Vec::new(alloc);
+        let mut places = TextPlaces::with_capacity(alloc, 1)?;
         places.push(0)?;
         Ok(TextBuilder {
             present: Flags::new(alloc, may_be_null),
@@ -93,12 +86,13 @@ impl TextBuilder {
         ensures err { OnErr result (self.new ≡ self.old) }
     {
         let before = self.bytes.len();
+        let count = self.places.len();
         push_text(&mut self.bytes, &mut self.places, value)?;
         match self.present.push(is_there) {
             Ok(()) => Ok(()),
             Err(error) => {
                 self.bytes.truncate(before);
-                self.places.pop();
+                self.places.truncate(count);
                 Err(error)
             }
         }
@@ -160,17 +154,23 @@ impl TextBuilder {
         self.present.len()
     }
 
-    /// Adds the rows of a column. Only memory refuses, and then some of them may be there.
-    #[tactic(auto, using(crate::proofs::JoinLemmas::texts_next, crate::proofs::JoinLemmas::texts_none, crate::proofs::JoinLemmas::texts_all, crate::proofs::KeepLemmas::texts_keep, crate::proofs::JoinLemmas::hold_at))]
-    pub fn append(&mut self, column: &TextColumn) -> Result<(), AllocError>
+    /// Adds the rows of a column. Only memory refuses, and then nothing changes.
+    #[tactic(auto, using(crate::proofs::KeepLemmas::texts_same))]
+    pub fn append(&mut self, alloc: Global, column: &TextColumn) -> Result<(), AllocError>
         requires { may_hold self.old.nullable column.now.rows ≡ true }
         ensures ok { OnOk result (self.new ≡ record self.old { rows = self.old.rows ++ column.now.rows }) }
         ensures kept { Keeps (texts self.old) (texts self.new) }
     {
-        for row in 0..column.len() {
-            self.push_row(column.is_present(row), column.text_or_empty(row))?;
+        let flags = column.flags(alloc)?;
+        let before = self.present.len();
+        self.present.append(&flags)?;
+        match column.append_to(&mut self.bytes, &mut self.places) {
+            Ok(()) => Ok(()),
+            Err(error) => {
+                self.present.truncate(before);
+                Err(error)
+            }
         }
-        Ok(())
     }
 
     /// Keeps so many rows.
@@ -179,7 +179,8 @@ impl TextBuilder {
     {
         let kept = rows.min(self.present.len());
         self.present.truncate(kept);
-        self.bytes.truncate(place_at(&self.places, kept));
+        self.bytes.truncate(self.places.at(kept));
+        prove!(kept < self.places.len());
         self.places.truncate(kept + 1);
     }
 
@@ -189,7 +190,7 @@ impl TextBuilder {
         ensures { result ≡ length (text_bytes (slice_index_or self.now.rows row None)) }
     {
         if self.present.is_there(row) {
-            place_at(&self.places, row + 1) - place_at(&self.places, row)
+            self.places.behind(row) - self.places.at(row)
         } else {
             0
         }
@@ -222,7 +223,7 @@ impl TextBuilder {
     {
         let bits = self.present.to_bits(alloc)?;
         let bytes = Vec::from_slice(alloc, &self.bytes)?;
-        let places = Vec::from_slice(alloc, &self.places)?;
+        let places = self.places.part(alloc, 0, self.places.len())?;
         let held = ByteBuffer::from_vec(alloc, bytes, Alignment::none())?;
         let column = TextColumn::new(
             alloc,

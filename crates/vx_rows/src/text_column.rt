@@ -1,12 +1,13 @@
 //! Columns of texts.
-ghost use Rattle.std.specs.Prelude.{◌≡◌, ◌++◌, ◌+◌, ◌-◌, ◌%◌, ◌<◌, ◌≤◌, ◌^◌, length, map, min, sum_by, slice_index};
-ghost use Rattle.std.specs.Prelude.{slice_index_or, slice_range, is_some, IfOk, IfSome, Some, None, true, option_map, OnOk};
+ghost use Rattle.std.specs.Prelude.{ℕ, take, ◌≡◌, ◌++◌, ◌+◌, ◌-◌, ◌%◌, ◌<◌, ◌≤◌, ◌^◌, length, map, min, sum_by, slice_index};
+ghost use Rattle.std.specs.Prelude.{slice_index_or, slice_range, is_some, IfOk, IfSome, Some, None, true, option_map, OnOk, OnErr};
 ghost use Rattle.std.specs.Str.{IsUtf8};
 ghost use Rattle.vx_rows.specs.Span.{span};
 ghost use Rattle.vx_rows.specs.Columns.{text_row, AreRanges, AreTexts, may_hold};
 ghost use Rattle.vx_rows.specs.Rows.{texts, AreUtf8};
 ghost use Rattle.vx_rows.specs.Parts.{plain_size};
 ghost use Rattle.vx_rows.specs.Written.{text_bytes, length_bytes, texts_bytes};
+ghost use Rattle.vx_rows.specs.TextsBehind.{end_from, ComeBehind};
 ghost use Rattle.std.specs.List.{flat_map};
 ghost use Rattle.std.specs.Int.{w32, to_le_bytes};
 
@@ -15,6 +16,7 @@ use crate::int_column::has_value;
 use crate::parts::{are_all_present, flags_of, part_of};
 use crate::plain_size::size_of_texts;
 use crate::presence::push_presence;
+use crate::text_places::TextPlaces;
 use std::alloc::{AllocError, Global};
 use std::marker::Model;
 use vx_base::ByteBuffer;
@@ -26,7 +28,7 @@ pub struct TextColumn {
     count: usize,
     present: Option<Bits>,
     held: ByteBuffer,
-    places: Vec<usize>,
+    places: TextPlaces,
 }
 
 impl Model for TextColumn {
@@ -36,10 +38,10 @@ impl Model for TextColumn {
 
     ghost Value = { Texts };
 
-    ghost view = { λ c. record { nullable = c.may_be_null; rows = span (text_row c.present c.held.bytes c.places.items) 0 c.count } };
+    ghost view = { λ c. record { nullable = c.may_be_null; rows = span (text_row c.present c.held.bytes c.places) 0 c.count } };
 
-    ghost invariant = { λ c. (length c.places.items ≡ c.count + 1) × IfSome c.present (λ bits. length bits ≡ c.count)
-        × AreRanges c.held.bytes c.places.items c.count × AreTexts c.held.bytes c.places.items c.count };
+    ghost invariant = { λ c. (length c.places ≡ c.count + 1) × IfSome c.present (λ bits. length bits ≡ c.count)
+        × AreRanges c.held.bytes c.places c.count × AreTexts c.held.bytes c.places c.count };
 }
 
 /// Bytes that are a text, as one.
@@ -53,16 +55,28 @@ pub fn text_of(bytes: &[u8]) -> &str
 
 /// The text between the place of a row and the next.
 #[inline(always)]
-fn text_between<'a>(bytes: &'a [u8], places: &[usize], rows: usize, row: usize) -> &'a str
+fn text_between<'a>(bytes: &'a [u8], places: &TextPlaces, rows: usize, row: usize) -> &'a str
     requires long { length places.now ≡ rows + 1 }
     requires less { row < rows }
     requires ranges { AreRanges bytes.now places.now rows }
     requires texts { AreTexts bytes.now places.now rows }
     ensures { result.now ≡ slice_range bytes.now (slice_index places.now row) (slice_index places.now (row + 1)) }
 {
-    let from = places[row];
-    let to = places[row + 1];
+    let from = places.at(row);
+    let to = places.behind(row);
     text_of(&bytes[from..to])
+}
+
+/// The bytes between the place of the first row and the one behind the last.
+fn all_between<'a>(bytes: &'a [u8], places: &TextPlaces, rows: usize) -> &'a [u8]
+    requires long { length places.now ≡ rows + 1 }
+    requires ordered { slice_index places.now 0 ≤ slice_index places.now rows }
+    requires inside { slice_index places.now rows ≤ length bytes.now }
+    ensures { result.now ≡ slice_range bytes.now (slice_index places.now 0) (slice_index places.now rows) }
+{
+    let from = places.at(0);
+    let to = places.at(rows);
+    &bytes[from..to]
 }
 
 /// Adds the low 32 bits of a length. A greater one makes the array too long.
@@ -73,6 +87,28 @@ fn push_length(bytes: &mut Vec<u8>, length: usize) -> Result<(), AllocError>
     bytes.extend_from_slice(&low.to_le_bytes())
 }
 
+/// Adds the place behind each of so many rows, where the first of them comes at a place. Only memory refuses, and then some
+/// of them may be there.
+#[tactic(auto, using(crate::proofs::SpanLemmas::span_more))]
+fn push_ends(
+    ends: &mut TextPlaces,
+    places: &TextPlaces,
+    rows: usize,
+    start: usize,
+) -> Result<(), AllocError>
+    requires long { length places.now ≡ rows + 1 }
+    requires least { (row : ℕ) → row ≤ rows → slice_index places.now 0 ≤ slice_index places.now row }
+    requires few { (row : ℕ) → row ≤ rows → start + (slice_index places.now row - slice_index places.now 0) < 2 ^ 64 }
+    ensures ok { OnOk result (ends.new ≡ ends.old ++ span (end_from places.now start) 0 rows) }
+    ensures err { OnErr result (take (length ends.old) ends.new ≡ ends.old) }
+{
+    let first = places.at(0);
+    for row in 0..rows {
+        ends.push(start + (places.behind(row) - first))?;
+    }
+    Ok(())
+}
+
 impl TextColumn {
     /// Texts between places. Only memory refuses.
     pub(crate) fn new(
@@ -80,16 +116,16 @@ impl TextColumn {
         may_be_null: bool,
         present: Option<Bits>,
         held: &ByteBuffer,
-        places: Vec<usize>,
+        places: TextPlaces,
         count: usize,
     ) -> Result<TextColumn, AllocError>
-        requires long { length places.items ≡ count + 1 }
+        requires long { length places ≡ count + 1 }
         requires present { IfSome present (λ bits. length bits ≡ count) }
-        requires ranges { AreRanges held.now.bytes places.items count }
-        requires texts { AreTexts held.now.bytes places.items count }
+        requires ranges { AreRanges held.now.bytes places count }
+        requires texts { AreTexts held.now.bytes places count }
         ensures { IfOk result (λ c. c ≡ record {
           nullable = may_be_null;
-          rows = span (text_row present held.now.bytes places.items) 0 count;
+          rows = span (text_row present held.now.bytes places) 0 count;
         }) }
     {
         Ok(TextColumn {
@@ -179,11 +215,15 @@ impl TextColumn {
         Ok(())
     }
 
-    /// Adds each text.
+    /// Adds each text. Where no row is null they stand one behind the other.
     #[tactic(auto, using(crate::proofs::WrittenLemmas::next_row))]
     fn push_texts(&self, bytes: &mut Vec<u8>) -> Result<(), AllocError>
         ensures { OnOk result (bytes.new.items ≡ bytes.old.items ++ flat_map text_bytes self.now.rows) }
     {
+        if self.present.is_none() && self.count > 0 {
+            let all = all_between(self.held.as_slice(), &self.places, self.count);
+            return bytes.extend_from_slice(all);
+        }
         for row in 0..self.len() {
             bytes.extend_from_slice(self.text_or_empty(row).as_bytes())?;
         }
@@ -200,6 +240,36 @@ impl TextColumn {
         Ok(())
     }
 
+    /// Adds the bytes of all texts at once behind those of others, and the place behind each. Only memory refuses, and then
+    /// nothing changes.
+    #[tactic(auto, using(crate::proofs::BehindLemmas::places_ascend, crate::proofs::BehindLemmas::last_inside))]
+    pub(crate) fn append_to(
+        &self,
+        bytes: &mut Vec<u8>,
+        places: &mut TextPlaces,
+    ) -> Result<(), AllocError>
+        ensures ok { (n : ℕ) → length places.old ≡ n + 1 → slice_index places.old n ≡ length bytes.old.items →
+            AreRanges bytes.old.items places.old n → AreTexts bytes.old.items places.old n →
+            OnOk result (ComeBehind self.now.rows n bytes.old.items places.old bytes.new.items places.new) }
+        ensures err { OnErr result ((bytes.new.items ≡ bytes.old.items) × (places.new ≡ places.old)) }
+    {
+        if self.count == 0 {
+            return Ok(());
+        }
+        let start = bytes.len();
+        let count = places.len();
+        let all = all_between(self.held.as_slice(), &self.places, self.count);
+        bytes.extend_from_slice(all)?;
+        match push_ends(places, &self.places, self.count, start) {
+            Ok(()) => Ok(()),
+            Err(error) => {
+                bytes.truncate(start);
+                places.truncate(count);
+                Err(error)
+            }
+        }
+    }
+
     /// The rows from one on, up to another. Only memory refuses.
     #[tactic(auto, using(crate::proofs::CutLemmas::texts_cut, crate::proofs::CutLemmas::texts_cut_long, crate::proofs::CutLemmas::ranges_cut, crate::proofs::CutLemmas::utf8_cut, crate::proofs::CutLemmas::present_long, crate::proofs::SpanLemmas::length_span))]
     pub(crate) fn part(
@@ -213,7 +283,8 @@ impl TextColumn {
         ensures { IfOk result (λ column. column ≡ record self.now { rows = slice_range self.now.rows from to }) }
     {
         let present = part_of(alloc, &self.present, from, to)?;
-        let places = Vec::from_slice(alloc, &self.places[from..to + 1])?;
+        prove!(to < self.places.len());
+        let places = self.places.part(alloc, from, to + 1)?;
         let column = TextColumn::new(
             alloc,
             self.may_be_null,

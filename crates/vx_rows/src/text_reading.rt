@@ -10,6 +10,7 @@ ghost use Rattle.vx_rows.specs.Arrays.{Fails, place_at, places_at, is_text, text
 use crate::int_column::{place_of, u32_at};
 use crate::presence::read_presence;
 use crate::reading::{are_clear, have_room};
+use crate::text_places::TextPlaces;
 use crate::{ArrayError, TextColumn};
 use std::alloc::{AllocError, Global};
 use vx_base::ByteBuffer;
@@ -23,17 +24,17 @@ fn places_of(
     bytes: &[u8],
     at: usize,
     rows: usize,
-) -> Result<Option<(Vec<usize>, usize)>, AllocError>
+) -> Result<Option<(TextPlaces, usize)>, AllocError>
     requires room { value_place U32 at rows ≤ length bytes.now }
     requires bound { length bytes.now < 2 ^ 63 }
-    ensures places { IfOk result (λ found. IfSome found (λ x. x.0.items ≡ places_at rows bytes.now at)) }
+    ensures places { IfOk result (λ found. IfSome found (λ x. x.0 ≡ places_at rows bytes.now at)) }
     ensures after { IfOk result (λ found. IfSome found (λ x. x.1 ≡ place_at bytes.now at (value_place U32 at rows) rows)) }
     ensures inside { IfOk result (λ found. IfSome found (λ x. x.1 ≤ length bytes.now)) }
-    ensures ranges { IfOk result (λ found. IfSome found (λ x. AreRanges bytes.now x.0.items rows)) }
+    ensures ranges { IfOk result (λ found. IfSome found (λ x. AreRanges bytes.now x.0 rows)) }
     ensures none { IfOk result (λ found. IfNone found (length bytes.now < place_at bytes.now at (value_place U32 at rows) rows)) }
 {
     let mut place = place_of(PType::U32, at, rows);
-    let mut places = Vec::with_capacity(alloc, rows + 1)?;
+    let mut places = TextPlaces::with_capacity(alloc, rows + 1)?;
     places.push(place)?;
     for row in 0..rows {
         let size = u32_at(bytes, at + 4 * row) as usize;
@@ -58,11 +59,11 @@ fn is_text_between(bytes: &[u8], from: usize, to: usize) -> bool
 }
 
 /// Whether the bytes of all rows together are ASCII, of which each part is a text.
-fn are_ascii(bytes: &[u8], places: &[usize], rows: usize) -> bool
+fn are_ascii(bytes: &[u8], places: &TextPlaces, rows: usize) -> bool
     requires long { length places.now ≡ rows + 1 }
     ensures { result ≡ true → IsAscii (slice_range bytes.now (slice_index places.now 0) (slice_index places.now rows)) }
 {
-    match bytes.get(places[0]..places[rows]) {
+    match bytes.get(places.at(0)..places.at(rows)) {
         Some(all) => all.is_ascii(),
         None => false,
     }
@@ -70,7 +71,7 @@ fn are_ascii(bytes: &[u8], places: &[usize], rows: usize) -> bool
 
 /// Whether the bytes of each row are a text.
 #[tactic(auto, using(crate::proofs::SpanLemmas::every_step, crate::proofs::TextLemmas::texts_are, crate::proofs::AsciiLemmas::ascii_texts))]
-fn are_texts(bytes: &[u8], places: &[usize], rows: usize) -> bool
+fn are_texts(bytes: &[u8], places: &TextPlaces, rows: usize) -> bool
     requires long { length places.now ≡ rows + 1 }
     requires ranges { AreRanges bytes.now places.now rows }
     ensures value { result ≡ every (is_text bytes.now places.now) 0 rows }
@@ -80,7 +81,7 @@ fn are_texts(bytes: &[u8], places: &[usize], rows: usize) -> bool
         return true;
     }
     for row in 0..rows {
-        if !is_text_between(bytes, places[row], places[row + 1]) {
+        if !is_text_between(bytes, places.at(row), places.behind(row)) {
             return false;
         }
     }

@@ -1,21 +1,15 @@
-use Rattle.std.proofs.Common.{◌<◌, ◌≤◌, length, rules, arith}
+use Rattle.std.proofs.Common.{◌≡◌, true, length, None, rules}
+use Rattle.std.specs.List.{list_all}
 use Rattle.std.specs.Ordering.{int_cmp}
-use Rattle.std.specs.Cmp.{int_cmp_total}
 use Rattle.vx_data.specs.Scalar.{number}
-use Rattle.vx_rows.specs.RowStats.{masked}
-use Rattle.vx_rows.proofs.ExtentLemmas.{gathered_step, gathered_summary, masked_long}
+use Rattle.vx_rows.specs.Span.{span}
+use Rattle.vx_rows.specs.Columns.{int_row}
+use Rattle.vx_rows.specs.RowStats.{summary_by}
+use Rattle.vx_rows.proofs.ExtentLemmas.{plain_summary}
 use Rattle.vx_rows.proofs.extents.extent_of_kind.Goals as goal
-
-pub loop-row-preserved : goal.loop-row-preserved
-loop-row-preserved c =
-    let long = masked_long c.args.present.now c.args.column.now.rows c.requires.long in
-    let less : c.loop-row.row < length c.args.column.now.rows = search rules in
-    gathered_step int_cmp int_cmp_total (masked c.args.present.now c.args.column.now.rows) c.loop-row.row c.loop-row.min c.loop-row.max c.loop-row.nulls c.loop-row.invariant
-    c.lesser_number-min.result c.greater_number-max.result c.number_at-value.result c.null_of-nulls.result (omega (arith, less, long)) c.number_at-value.ensures c.lesser_number-min.ensures c.greater_number-max.ensures c.null_of-nulls.ensures
 
 pub returns : goal.returns
 returns c =
-    let long = masked_long c.args.present.now c.args.column.now.rows c.requires.long in
-    let past : length c.args.column.now.rows ≤ c.loop-row.row = search rules in
-    gathered_summary int_cmp int_cmp_total (masked c.args.present.now c.args.column.now.rows) c.loop-row.row c.loop-row.min c.loop-row.max c.loop-row.nulls c.loop-row.invariant
-    number _ _ (omega (arith, past, long)) c.as_number.ensures c.as_number-2.ensures
+    let all : list_all (λ b. b) c.args.present.now ≡ true = search rules in
+    let tells : c.extent_of_plain.result ≡ summary_by number int_cmp (span (int_row c.args.ptype None c.in-Some.bytes.now c.in-Some.at) 0 (length c.args.column.now.rows)) = search rules in
+    plain_summary c.args.ptype c.in-Some.bytes.now c.in-Some.at c.args.column.now c.args.present.now c.extent_of_plain.result c.requires.typed c.requires.long all c.in-Some.ensures.rows tells

@@ -13,6 +13,6 @@ loop-value-preserved c =
     let row = ap (λ (value : Option (String Global)). option_map string_bytes value) c.value-item.is
     ∙ sym (map_at (λ (value : Option (String Global)). option_map string_bytes value) c.args.values.now c.loop-value.value-index _ None c.loop-value-test.true) in
     let size : c.len.result ≡ length c.push_text.new.bytes.items = search rules in
-    gathered_more (texts_of c.args.values.now) c.loop-value.value-index (option_map string_bytes c.value-item.result) c.loop-value.bytes.items c.push_text.new.bytes.items c.loop-value.places.items
-    c.push-in-loop-value.new.self.items c.loop-value.invariant (omega (arith, long, c.loop-value-test.true)) row c.in_ok-push_text.ensures
-    (c.in_ok-push-2.ensures.items ∙ ap (λ (n : ℕ). c.loop-value.places.items ++ n ∷ []) size)
+    gathered_more (texts_of c.args.values.now) c.loop-value.value-index (option_map string_bytes c.value-item.result) c.loop-value.bytes.items c.push_text.new.bytes.items c.loop-value.places
+    c.push-in-loop-value.new.self c.loop-value.invariant (omega (arith, long, c.loop-value-test.true)) row c.in_ok-push_text.ensures
+    (c.in_ok-push-2.ensures.ok ∙ ap (λ (n : ℕ). c.loop-value.places ++ n ∷ []) size)

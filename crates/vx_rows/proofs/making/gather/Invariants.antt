@@ -3,4 +3,4 @@ use Rattle.vx_rows.proofs.TextRowLemmas.{Gathered}
 use Rattle.vx_rows.proofs.making.gather.Given as goal
 
 abbrev pub invariant-loop-value : goal.invariant-loop-value
-invariant-loop-value l = Gathered (texts_of l.values) l.value-index l.bytes.items l.places.items
+invariant-loop-value l = Gathered (texts_of l.values) l.value-index l.bytes.items l.places

@@ -6,17 +6,17 @@ use Rattle.vx_rows.proofs.TextRowLemmas.{texts_held, held_ranges, held_texts, he
 use Rattle.vx_rows.proofs.making.make_texts.Goals as goal
 
 pub new-requires-clause-long : goal.new-requires-clause-long
-new-requires-clause-long c = held_long c.args.values.now c.in_ok-bytes.places.items c.in_ok-bytes.ensures.places
+new-requires-clause-long c = held_long c.args.values.now c.in_ok-bytes.places c.in_ok-bytes.ensures.places
 
 pub new-requires-clause-ranges : goal.new-requires-clause-ranges
 new-requires-clause-ranges c =
     let bytes : c.in_ok-held.held.bytes ≡ flat_map text_bytes (texts_of c.args.values.now) = search rules in
-    held_ranges c.args.values.now c.in_ok-held.held.bytes c.in_ok-bytes.places.items bytes c.in_ok-bytes.ensures.places
+    held_ranges c.args.values.now c.in_ok-held.held.bytes c.in_ok-bytes.places bytes c.in_ok-bytes.ensures.places
 
 pub new-requires-clause-texts : goal.new-requires-clause-texts
 new-requires-clause-texts c =
     let bytes : c.in_ok-held.held.bytes ≡ flat_map text_bytes (texts_of c.args.values.now) = search rules in
-    held_texts c.args.values.now c.in_ok-held.held.bytes c.in_ok-bytes.places.items bytes c.in_ok-bytes.ensures.places
+    held_texts c.args.values.now c.in_ok-held.held.bytes c.in_ok-bytes.places bytes c.in_ok-bytes.ensures.places
 
 pub returns : goal.returns
 returns c =
@@ -24,4 +24,4 @@ returns c =
     let bytes : c.in_ok-held.held.bytes ≡ flat_map text_bytes (texts_of c.args.values.now) = search rules in
     c.in_ok-column.ensures
     ∙ ap (λ (rows : List (Option (List ℕ))). record { nullable = c.args.nullable; rows = rows })
-    (texts_held c.args.nullable c.args.values.now c.in_ok-present.present c.in_ok-held.held.bytes c.in_ok-bytes.places.items c.requires present bytes c.in_ok-bytes.ensures.places)
+    (texts_held c.args.nullable c.args.values.now c.in_ok-present.present c.in_ok-held.held.bytes c.in_ok-bytes.places c.requires present bytes c.in_ok-bytes.ensures.places)

@@ -4,4 +4,4 @@ use Rattle.vx_rows.proofs.TextLemmas.{SoFar}
 use Rattle.vx_rows.proofs.text_reading.places_of.Given as goal
 
 abbrev pub invariant-loop-row : goal.invariant-loop-row
-invariant-loop-row l = SoFar l.bytes l.at (value_place U32 l.at l.rows) l.row l.place l.places.items
+invariant-loop-row l = SoFar l.bytes l.at (value_place U32 l.at l.rows) l.row l.place l.places

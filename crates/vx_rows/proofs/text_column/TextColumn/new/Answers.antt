@@ -8,6 +8,6 @@ invariant_of-result c =
     let same : c.in_ok-share.field-0 ≡ c.args.held.now = search rules in (
       c.requires.long,
       c.requires.present,
-      subst (λ (h : Buffer). AreRanges h.bytes c.args.places.items c.args.count) (sym same) c.requires.ranges,
-      subst (λ (h : Buffer). AreTexts h.bytes c.args.places.items c.args.count) (sym same) c.requires.texts,
+      subst (λ (h : Buffer). AreRanges h.bytes c.args.places c.args.count) (sym same) c.requires.ranges,
+      subst (λ (h : Buffer). AreTexts h.bytes c.args.places c.args.count) (sym same) c.requires.texts,
     )
