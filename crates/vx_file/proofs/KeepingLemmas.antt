@@ -10,8 +10,9 @@ use Rattle.vx_rows.specs.RowValues.{Row, row_in, parts_in, of_parts, if_there, p
 use Rattle.vx_rows.specs.Rows.{Rows, FieldRows, bools, ints, texts, structs, no_columns, column, dtype_of, types_of, rows_len, HasRows, AllHaveRows}
 use Rattle.vx_rows.specs.Parts.{part as part_of, field_parts, appended, fields_appended}
 use Rattle.vx_rows.specs.ReadRows.{no_rows, no_rows_each}
-use Rattle.vx_rows.proofs.ColumnLaws.{drop-twice, rows_are}
+use Rattle.vx_rows.proofs.ColumnLaws.{drop-twice, rows_are, part_type}
 use Rattle.vx_rows.proofs.SpanLemmas.{length_span, span_same}
+use Rattle.vx_file.proofs.JoiningLemmas.{none_before}
 use Rattle.vx_file.specs.Kept.{kept, kept_rows, kept_fields, all_rows, KeepsRows}
 
 -- ---- lists
@@ -253,3 +254,17 @@ kept_satisfying p n c h =
 pub none_satisfies : (p : Row → Bool) (rows : List Row) → AllByRecursion (λ r. p r ≡ false) rows → filter p rows ≡ []
 none_satisfies p [] h = refl
 none_satisfies p (r ∷ rows) h = rw h.0 (none_satisfies p rows h.1)
+
+-- one run of rows
+pub one_run : (mask : List Bool) (c : Rows) (from to : ℕ) → length mask ≡ rows_len c → HasRows (rows_len c) c → from ≤ to → to ≤ length mask
+    → ((k : ℕ) → k < from → slice_index_or mask k true ≡ false) → ((k : ℕ) → from ≤ k → k < to → slice_index_or mask k true ≡ true)
+    → ((k : ℕ) → to ≤ k → k < length mask → slice_index_or mask k true ≡ false) → part_of from to c ≡ kept_rows mask c
+one_run mask c from to long even o l none all after =
+    let start = keeps_none mask c (dtype_of c) (no_rows (dtype_of c)) refl refl in
+    let run = keeps_more mask c 0 from to (no_rows (dtype_of c)) (appended (no_rows (dtype_of c)) (part_of from to c)) long even start (omega arith) o l (λ k a b. none k b) all refl in
+    let alone : appended (no_rows (dtype_of c)) (part_of from to c) ≡ part_of from to c =
+    subst (λ (d : Dtype). appended (no_rows d) (part_of from to c) ≡ part_of from to c) (part_type from to c) (none_before (part_of from to c)) in
+    let x : to + (length mask - to) ≡ length mask = omega (arith, l) in
+    let gap = subst (λ i. kept_rows (take i mask) c ≡ kept_rows (take to mask) c) x
+    (skip-rows mask to (length mask - to) (omega (arith, l)) (λ k a b. after k a (omega (arith, b, l))) c) in
+    sym alone ∙ run.rows ∙ sym gap ∙ ap (λ m. kept_rows m c) (take_all (length mask) mask (omega arith))

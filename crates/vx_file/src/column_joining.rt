@@ -1,8 +1,9 @@
 //! The rows of a layout, put together of the columns of its children.
-ghost use Rattle.std.specs.Prelude.{◌≡◌, map, replicate, unwrap_or, is_some, true, false, Some, IfOk};
+ghost use Rattle.std.specs.Prelude.{◌≡◌, map, replicate, unwrap_or, is_some, true, false, Some, IfOk, OnOk};
 ghost use Rattle.vx_data.specs.Dtype.{struct, dtype_view, pairs_view as types_view};
 ghost use Rattle.vx_rows.specs.LayoutRows.{joined, zipped, struct_rows};
-ghost use Rattle.vx_rows.specs.Rows.{column_view, pairs_view};
+ghost use Rattle.vx_rows.specs.Parts.{part, appended};
+ghost use Rattle.vx_rows.specs.Rows.{column_view, pairs_view, rows_len, dtype_of, IsColumn};
 ghost use Rattle.vx_file.specs.Scans.{seen, AreChunks, AreColumnsOf, structs_over};
 
 use std::alloc::{AllocError, Global};
@@ -10,14 +11,24 @@ use std::vec::IntoIter;
 use vx_data::DType;
 use vx_rows::{BoolColumn, Column, GrowingColumn};
 
-/// The rows of columns of a type, one behind the other. Only memory refuses.
-pub(crate) fn join(alloc: Global, dtype: &DType, chunks: &[Column]) -> Result<Column, AllocError>
-    requires { AreChunks (dtype_view dtype.now) (seen chunks.now) }
-    ensures { IfOk result (λ c. column_view c ≡ joined (dtype_view dtype.now) (seen chunks.now)) }
+/// Adds the rows of a column, which then goes. Only memory refuses.
+fn take_rows(alloc: Global, growing: &mut GrowingColumn, chunk: Column) -> Result<(), AllocError>
+    requires typed { dtype_of (column_view chunk) ≡ dtype_of growing.old }
+    requires even { IsColumn (rows_len (column_view chunk)) (column_view chunk) }
+    ensures { OnOk result (growing.new ≡ appended growing.old (part 0 (rows_len (column_view chunk)) (column_view chunk))) }
+{
+    growing.append(alloc, &chunk, 0, chunk.len())
+}
+
+/// The rows of columns of a type, one behind the other. Each column goes as soon as its rows are taken, so that the bytes
+/// are hardly ever held twice. Only memory refuses.
+pub(crate) fn join(alloc: Global, dtype: &DType, chunks: Vec<Column>) -> Result<Column, AllocError>
+    requires { AreChunks (dtype_view dtype.now) (seen chunks.items) }
+    ensures { IfOk result (λ c. column_view c ≡ joined (dtype_view dtype.now) (seen chunks.items)) }
 {
     let mut growing = GrowingColumn::new(alloc, dtype)?;
     for chunk in chunks {
-        growing.append(alloc, chunk, 0, chunk.len())?;
+        take_rows(alloc, &mut growing, chunk)?;
     }
     Ok(growing.finish(alloc)?)
 }

@@ -138,7 +138,7 @@ pub(crate) fn read_layout<S: SegmentSource>(
         LayoutKind::Flat => read_flat(alloc, source, layout, ids),
         LayoutKind::Chunked => {
             let chunks = read_children(alloc, source, layout, ids)?;
-            Ok(join(alloc, layout.dtype(), &chunks)?)
+            Ok(join(alloc, layout.dtype(), chunks)?)
         }
         LayoutKind::Struct => {
             let columns = read_children(alloc, source, layout, ids)?;

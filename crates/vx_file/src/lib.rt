@@ -1,4 +1,5 @@
-//! Opens a file from its tail, answers scripts of requests for its segments, skips it, and gives its rows.
+//! Opens a file from its tail, answers scripts of requests for its segments, skips it, and gives its rows, also those of
+//! many files as one.
 #![tactic(auto)]
 
 mod cached;

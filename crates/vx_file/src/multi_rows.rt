@@ -113,6 +113,6 @@ impl<R: Reader, C: SegmentCache, G> MultiLayoutDataSource<R, C, G> {
             Ok(()) => {}
             Err(error) => return Err(error),
         }
-        Ok(join(alloc, self.footer.dtype(), columns.as_slice())?)
+        Ok(join(alloc, self.footer.dtype(), columns)?)
     }
 }

@@ -43,7 +43,7 @@ fn run_end(mask: &Mask, from: usize) -> usize
 }
 
 /// The rows of a column that a mask keeps, in order, run by run. Only memory refuses.
-pub(crate) fn keep(alloc: Global, column: &Column, mask: &Mask) -> Result<Column, AllocError>
+fn keep_runs(alloc: Global, column: &Column, mask: &Mask) -> Result<Column, AllocError>
     requires even { IsColumn (rows_len (column_view column.now)) (column_view column.now) }
     requires long { length mask.now ≡ rows_len (column_view column.now) }
     ensures value { IfOk result (λ c. column_view c ≡ kept_rows mask.now (column_view column.now)) }
@@ -60,6 +60,23 @@ pub(crate) fn keep(alloc: Global, column: &Column, mask: &Mask) -> Result<Column
         at = to;
     }
     Ok(growing.finish(alloc)?)
+}
+
+/// The rows of a column that a mask keeps, in order. Only memory refuses.
+pub(crate) fn keep(alloc: Global, column: &Column, mask: &Mask) -> Result<Column, AllocError>
+    requires even { IsColumn (rows_len (column_view column.now)) (column_view column.now) }
+    requires long { length mask.now ≡ rows_len (column_view column.now) }
+    ensures value { IfOk result (λ c. column_view c ≡ kept_rows mask.now (column_view column.now)) }
+    ensures typed { IfOk result (λ c. dtype_of (column_view c) ≡ dtype_of (column_view column.now)) }
+    ensures sound { IfOk result (λ c. IsColumn (rows_len (column_view c)) (column_view c)) }
+{
+    let from = next_kept(mask, 0);
+    let to = run_end(mask, from);
+    if next_kept(mask, to) == mask.len() {
+        // one run, whose values are shared and not copied
+        return Ok(column.part(alloc, from, to)?);
+    }
+    keep_runs(alloc, column, mask)
 }
 
 /// What a mask keeps of a column has the rows that the mask keeps, in order.

@@ -105,7 +105,7 @@ read_layout-join-requires g t c =
     let a = c.args.layout.now in
     let cs = seen c.in_ok-chunks-in-Chunked.chunks.items in
     let parts = subst (λ k. AreParts k (type_of_tree a) (tree_rows a) cs) kind c.in_ok-chunks-in-Chunked.ensures.parts in
-    rw (c.dtype.ensures, c.deref.ensures.value) (chunks_are (type_of_tree a) (tree_rows a) cs parts)
+    rw c.dtype.ensures (chunks_are (type_of_tree a) (tree_rows a) cs parts)
 
 pub read_layout-returns-in_err-columns-in-Struct-clause-fails : goal.read_layout-returns-in_err-columns-in-Struct-clause-fails
 read_layout-returns-in_err-columns-in-Struct-clause-fails g t c = λ e is file s.
@@ -129,7 +129,7 @@ read_layout-returns-in_ok-join-in-Chunked-clause-typed g t c =
     let a = c.args.layout.now in
     let cs = seen c.in_ok-chunks-in-Chunked.chunks.items in
     let parts = subst (λ k. AreParts k (type_of_tree a) (tree_rows a) cs) kind c.in_ok-chunks-in-Chunked.ensures.parts in
-    chunks_typed (type_of_tree a) (tree_rows a) cs (column_view c.in_ok-join-in-Chunked.field-0) parts (rw (c.dtype.ensures, c.deref.ensures.value) at c.in_ok-join-in-Chunked.ensures)
+    chunks_typed (type_of_tree a) (tree_rows a) cs (column_view c.in_ok-join-in-Chunked.field-0) parts (rw c.dtype.ensures at c.in_ok-join-in-Chunked.ensures)
 
 pub read_layout-returns-in_ok-zip-in-Struct-clause-typed : goal.read_layout-returns-in_ok-zip-in-Struct-clause-typed
 read_layout-returns-in_ok-zip-in-Struct-clause-typed g t c =

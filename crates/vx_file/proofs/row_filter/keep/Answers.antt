@@ -1,34 +1,28 @@
-use Rattle.std.proofs.Common.{◌≤◌, length, rules, sym, ap, subst, ◌∙◌}
-use Rattle.vx_data.specs.Dtype.{dtype_view}
+use Rattle.std.proofs.Common.{◌≡◌, ◌-◌, length, ap, sym, subst, ◌∙◌, arith, rules}
+use Rattle.vx_rows.specs.Parts.{part}
 use Rattle.vx_rows.specs.Rows.{Rows, IsColumn, column_view, rows_len, dtype_of}
-use Rattle.vx_rows.proofs.ColumnLaws.{column_rows}
-use Rattle.vx_file.proofs.KeepingLemmas.{keeps_none, keeps_more, keeps_all}
+use Rattle.vx_rows.proofs.ColumnLaws.{column_rows, part_type, part_is_column, rows_are}
+use Rattle.vx_file.proofs.KeepingLemmas.{one_run}
 use Rattle.vx_file.proofs.row_filter.keep.Goals as goal
 
-pub loop-at-init : goal.loop-at-init
-loop-at-init c = record {
-  kept = keeps_none c.args.mask.now (column_view c.args.column.now) (dtype_view c.in_ok-dtype.dtype) c.in_ok-growing.growing c.in_ok-dtype.ensures c.in_ok-growing.ensures.value;
-  typed = sym (c.in_ok-growing.ensures.typed ∙ c.in_ok-dtype.ensures);
-}
-
-pub loop-at-preserved : goal.loop-at-preserved
-loop-at-preserved c =
-    let i = c.loop-at.invariant in
+pub returns-then-next_kept-len-clause-value : goal.returns-then-next_kept-len-clause-value
+returns-then-next_kept-len-clause-value c =
     let here = column_view c.args.column.now in
-    record {
-      kept = keeps_more c.args.mask.now here c.loop-at.at c.next_kept-from.result c.run_end-to.result c.loop-at.growing c.append.new.self c.requires.long
-          (column_rows (rows_len here) here c.requires.even) i.kept c.next_kept-from.ensures.behind c.run_end-to.ensures.behind c.run_end-to.ensures.inside
-          c.next_kept-from.ensures.not_kept c.run_end-to.ensures.kept c.in_ok-append.ensures.ok;
-      typed = i.typed ∙ sym c.in_ok-append.ensures.same;
-    }
+    let end : c.next_kept.result ≡ length c.args.mask.now = search rules in
+    c.in_ok-part.ensures
+    ∙ one_run c.args.mask.now here c.next_kept-from.result c.run_end-to.result c.requires.long (column_rows (rows_len here) here c.requires.even) c.run_end-to.ensures.behind c.run_end-to.ensures.inside
+    (λ k l. c.next_kept-from.ensures.not_kept k (omega arith) l) c.run_end-to.ensures.kept (λ k a b. c.next_kept.ensures.not_kept k a (omega (arith, b, end)))
 
-pub returns-clause-value : goal.returns-clause-value
-returns-clause-value c =
-    let past : length c.args.mask.now ≤ c.loop-at.at = search rules in
-    c.in_ok-finish.ensures.value ∙ keeps_all c.args.mask.now (column_view c.args.column.now) c.loop-at.at c.loop-at.growing c.loop-at.invariant.kept past
+pub returns-then-next_kept-len-clause-typed : goal.returns-then-next_kept-len-clause-typed
+returns-then-next_kept-len-clause-typed c = ap dtype_of c.in_ok-part.ensures ∙ part_type c.next_kept-from.result c.run_end-to.result (column_view c.args.column.now)
 
-pub returns-clause-typed : goal.returns-clause-typed
-returns-clause-typed c = ap dtype_of c.in_ok-finish.ensures.value ∙ sym c.loop-at.invariant.typed
-
-pub returns-clause-sound : goal.returns-clause-sound
-returns-clause-sound c = subst (λ (x : Rows). IsColumn (rows_len x) x) (sym c.in_ok-finish.ensures.value) c.in_ok-finish.ensures.sound
+pub returns-then-next_kept-len-clause-sound : goal.returns-then-next_kept-len-clause-sound
+returns-then-next_kept-len-clause-sound c =
+    let here = column_view c.args.column.now in
+    let from = c.next_kept-from.result in
+    let to = c.run_end-to.result in
+    let long = c.requires.long in
+    let inside = c.run_end-to.ensures.inside in
+    let sound = part_is_column (rows_len here) from to here c.run_end-to.ensures.behind (omega (arith, inside, long)) c.requires.even in
+    let count = rows_are (to - from) (part from to here) (column_rows (to - from) (part from to here) sound) in
+    subst (λ (x : Rows). IsColumn (rows_len x) x) (sym c.in_ok-part.ensures) (subst (λ n. IsColumn n (part from to here)) (sym count) sound)

@@ -1,4 +1,4 @@
-use Rattle.std.proofs.Common.{◌≡◌, ℕ, List, ap, sym, Err, inr, ◌∙◌, take, subst, [], ◌∷◌, ◌++◌}
+use Rattle.std.proofs.Common.{◌≡◌, ℕ, ap, sym, Err, inr, ◌∙◌, take, subst, [], ◌∷◌, ◌++◌}
 use Rattle.std.specs.Prelude.{map, string_bytes}
 use Rattle.vx_data.specs.Layout.{dtype_of as type_of_tree}
 use Rattle.vx_rows.specs.LayoutRows.{joined}
@@ -26,7 +26,7 @@ join-requires g c =
     let r = c.in-Ok-read_all.ensures.reads in
     let chunks : AreChunks d (seen c.read_all.new.columns.items) = chunks_joined _ _ _ _ _ d front (seen c.read_all.new.columns.items) (c.in_ok-like.ensures.typed ∙ c.dtype.ensures)
     c.in-Ok.ensures.rows.typed c.in-Ok.ensures.rows.sound (r.0, r.1 ∙ ap (λ xs. xs ++ r.0) grown, r.2) in
-    subst (λ x. AreChunks x (seen c.as_slice-2.result.now)) (sym c.dtype-2.ensures) (subst (λ xs. AreChunks d (seen xs)) (sym c.as_slice-2.ensures.value) chunks)
+    subst (λ x. AreChunks x (seen c.read_all.new.columns.items)) (sym c.dtype-2.ensures) chunks
 
 pub returns-in_err-join-clause-asked : goal.returns-in_err-join-clause-asked
 returns-in_err-join-clause-asked g c =
@@ -39,7 +39,7 @@ returns-clause-rows g c =
     let front = column_view c.in-Ok.rows in
     let grown : seen c.add.new.columns.items ≡ front ∷ [] = c.in_ok-add.ensures ∙ ap (λ xs. seen xs ++ front ∷ []) c.new-columns.ensures.items in
     let r = c.in-Ok-read_all.ensures.reads in
-    let whole = c.in_ok-join.ensures ∙ (ap (λ x. joined x (seen c.as_slice-2.result.now)) c.dtype-2.ensures ∙ (ap (λ xs. joined d (seen xs)) c.as_slice-2.ensures.value ∙ ap (joined d) (r.1 ∙ ap (λ xs. xs ++ r.0) grown))) in
+    let whole = c.in_ok-join.ensures ∙ (ap (λ x. joined x (seen c.read_all.new.columns.items)) c.dtype-2.ensures ∙ ap (joined d) (r.1 ∙ ap (λ xs. xs ++ r.0) grown)) in
     (front, r.0, c.in-Ok.ensures.rows, moved_read _ _ _ _ _ _ _ _ (c.in_ok-like.ensures.typed ∙ c.dtype.ensures) (ap (map string_bytes) c.as_slice.ensures.value) r.2, whole)
 
 pub returns-clause-all : goal.returns-clause-all

@@ -1,7 +1,7 @@
 use Rattle.std.proofs.Common.{◌≡◌, ◌-◌, length}
 use Rattle.vx_rows.specs.Rows.{column_view, dtype_of}
 use Rattle.vx_file.proofs.KeepingLemmas.{Keeps}
-use Rattle.vx_file.proofs.row_filter.keep.Given as goal
+use Rattle.vx_file.proofs.row_filter.keep_runs.Given as goal
 
 -- the rows in front that are kept
 abbrev pub invariant-loop-at : goal.invariant-loop-at
