@@ -1,5 +1,6 @@
 pub mod Arms
 pub mod DemoArms
+pub mod DigitLemmas
 pub mod FileArms
 pub mod FooterText
 pub mod GeneratedLemmas

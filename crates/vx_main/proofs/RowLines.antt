@@ -9,5 +9,5 @@ use Rattle.vx_rows.proofs.FieldGrowLemmas.{column_size}
 
 -- the column of one field is no larger than all
 pub smaller_column : (cs : List (String Global × Column)) (i : ℕ) (c : String Global × Column) → i < length cs → c ≡ get_or cs i c
-    → 2 * type_size (dtype_of (column_view c.1)) < 2 * fields_size (types_of (pairs_view cs)) + 1
+    → 4 * type_size (dtype_of (column_view c.1)) < 4 * fields_size (types_of (pairs_view cs)) + 1
 smaller_column cs i c inside is = let size = column_size cs i c inside is in omega (arith, size)

@@ -8,7 +8,7 @@ use Rattle.vx_base.specs.Streams.{SinkState, SameSink, same_sink-then, Took, Too
 use Rattle.vx_base.specs.declared.fault.SinkError.{SinkError}
 use Rattle.vx_base.specs.declared.fault.SinkError.TheVariants as sink_error
 use Rattle.vx_main.specs.Runs.{Reports}
-use Rattle.vx_main.specs.Text.{TextState, Stands, Adds, Writes, Finishes, new_text}
+use Rattle.vx_main.specs.Text.{TextState, Stands, Adds, Holds, Writes, Finishes, new_text}
 
 pub adds_then : {a b : List ℕ} {w w1 w2 : TextState} {s s1 s2 : SinkState} → Adds a w s w1 s1 → Adds b w1 s1 w2 s2 → Adds (a ++ b) w s w2 s2
 adds_then {a = a} {b = b} {w2 = w2} {s2 = s2} h k = record {
@@ -46,6 +46,21 @@ adds_held bytes w w1 s held failure = record {
 
 pub adds_later : (bytes : List ℕ) (w w1 w2 : TextState) (s s1 : SinkState) → Adds [] w s w1 s1 → w2.held ≡ w1.held ++ bytes → w2.failure ≡ w1.failure → Adds bytes w s w2 s1
 adds_later bytes w w1 w2 s s1 h held failure = adds_then h (adds_held bytes w1 w2 s1 held failure)
+
+pub holds_then : {a b : List ℕ} {w w1 w2 : TextState} → Holds a w w1 → Holds b w1 w2 → Holds (a ++ b) w w2
+holds_then {a} {b} {w} h k = record {
+  held = k.held ∙ ap (λ t. t ++ b) h.held ∙ append_assoc w.held a b;
+  failure = k.failure ∙ h.failure;
+}
+
+pub adds_holds : {bytes : List ℕ} {w w1 : TextState} {s : SinkState} → Holds bytes w w1 → Adds bytes w s w1 s
+adds_holds {bytes} {w} {w1} {s} h = adds_held bytes w w1 s h.held h.failure
+
+pub adds_after : {bytes : List ℕ} {w w1 w2 : TextState} {s s1 s2 : SinkState} → Adds [] w s w1 s1 → Adds bytes w1 s1 w2 s2 → Adds bytes w s w2 s2
+adds_after h k = adds_then h k
+
+pub adds_put : {bytes : List ℕ} {w w1 w2 : TextState} {s s1 : SinkState} → Adds [] w s w1 s1 → Holds bytes w1 w2 → Adds bytes w s w2 s1
+adds_put {bytes} {w} {w1} {w2} {s} {s1} h k = adds_later bytes w w1 w2 s s1 h k.held k.failure
 
 -- behind a refused write the buffer does not matter
 pub adds_broken : (bytes : List ℕ) (e : SinkError) (w w1 : TextState) (s : SinkState) → w.failure ≡ Some e → w1.failure ≡ w.failure → Adds bytes w s w1 s

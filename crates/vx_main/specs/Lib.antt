@@ -1,5 +1,6 @@
 pub mod Command
 pub mod Demo
+pub mod Digits
 pub mod Failures
 pub mod Generated
 pub mod Help

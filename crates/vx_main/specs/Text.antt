@@ -40,3 +40,8 @@ pub record Writes (text : List ℕ) (before now : SinkState) (result : Result (U
 -- what was put in was written whole and flushed, or a prefix of it stands on the sink
 pub record Finishes (w : TextState) (before now : SinkState) (result : Result (Unit {0}) SinkError) : Type 0 where
   pub each : (start : SinkState) (text : List ℕ) → Stands start text w before → Writes text start now result
+
+-- these bytes wait in the buffer behind what waited there, and nothing was sent
+pub record Holds (bytes : List ℕ) (w w_now : TextState) : Type 0 where
+  pub held : w_now.held ≡ w.held ++ bytes
+  pub failure : w_now.failure ≡ w.failure

@@ -4,6 +4,7 @@
 mod answer;
 mod command;
 mod commands;
+mod digits;
 mod failure;
 mod filter;
 mod generated_bytes;

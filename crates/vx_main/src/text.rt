@@ -1,15 +1,19 @@
 //! Writes a text piece by piece through a buffer of fixed size, without memory of its own.
-ghost use Rattle.std.specs.Prelude.{◌≡◌, ◌++◌, ◌∷◌, [], ◌≤◌, ◌*◌, length, codes, decimal, None};
-ghost use Rattle.vx_main.specs.Text.{Adds, Finishes, new_text};
+ghost use Rattle.std.specs.Prelude.{◌≡◌, ◌+◌, ◌++◌, ◌∷◌, [], ◌<◌, ◌≤◌, length, decimal};
+ghost use Rattle.std.specs.Fmt.{signed_decimal};
+ghost use Rattle.vx_main.specs.Text.{Adds, Finishes, Holds, new_text};
 
+use crate::digits::put_digits;
 use arrayvec::ArrayVec;
-use itoa::Buffer;
 use std::alloc::Global;
 use std::marker::Model;
 use vx_base::{Sink, SinkError, write_all, write_flushed};
 
 /// How many bytes the buffer has room for.
 const ROOM: usize = 32_768;
+
+/// For how many bytes there is room behind `make_room`: for a comma, a sign and the digits of 64 bits.
+const SPARE: usize = 32;
 
 /// A text on its way to a sink, which each call names. After a write that is refused nothing more is
 /// written, and `finish` gives the error.
@@ -63,6 +67,7 @@ impl TextOut {
     }
 
     /// Hands what is held to the sink.
+    #[cold]
     #[tactic(auto, using(crate::proofs::TextLemmas::adds_stopped, crate::proofs::TextLemmas::adds_taken))]
     fn send<S: Sink>(&mut self, out: &mut S)
         ensures adds { Adds [] self.old (S.state out.old) self.new (S.state out.new) }
@@ -74,14 +79,12 @@ impl TextOut {
         self.held.clear();
     }
 
-    /// Adds bytes.
+    /// Adds bytes for which there is no room.
+    #[cold]
     #[tactic(auto, using(crate::proofs::TextLemmas::adds_then, crate::proofs::TextLemmas::adds_nothing, crate::proofs::TextLemmas::adds_held, crate::proofs::TextLemmas::adds_later))]
-    pub(crate) fn word<S: Sink>(&mut self, out: &mut S, bytes: &[u8])
+    fn send_word<S: Sink>(&mut self, out: &mut S, bytes: &[u8])
         ensures { Adds bytes.now self.old (S.state out.old) self.new (S.state out.new) }
     {
-        if self.held.try_extend_from_slice(bytes).is_ok() {
-            return;
-        }
         self.send(out);
         if self.held.try_extend_from_slice(bytes).is_ok() {
             return;
@@ -89,30 +92,76 @@ impl TextOut {
         self.pass_behind(out, bytes);
     }
 
+    /// Adds bytes.
+    #[inline]
+    #[tactic(auto, using(crate::proofs::TextLemmas::adds_held))]
+    pub(crate) fn word<S: Sink>(&mut self, out: &mut S, bytes: &[u8])
+        ensures { Adds bytes.now self.old (S.state out.old) self.new (S.state out.new) }
+    {
+        if self.held.try_extend_from_slice(bytes).is_ok() {
+            return;
+        }
+        self.send_word(out, bytes);
+    }
+
     /// Adds one byte.
-    #[tactic(auto, using(crate::proofs::TextLemmas::adds_then, crate::proofs::TextLemmas::adds_nothing, crate::proofs::TextLemmas::adds_held, crate::proofs::TextLemmas::adds_later))]
+    #[inline(always)]
+    #[tactic(auto, using(crate::proofs::TextLemmas::adds_held))]
     pub(crate) fn byte<S: Sink>(&mut self, out: &mut S, byte: u8)
         ensures { Adds (byte ∷ []) self.old (S.state out.old) self.new (S.state out.new) }
     {
         if self.held.try_push(byte).is_ok() {
             return;
         }
-        self.send(out);
-        if self.held.try_push(byte).is_ok() {
+        self.send_word(out, &[byte]);
+    }
+
+    /// Makes room for what is put and not added.
+    #[inline(always)]
+    pub(crate) fn make_room<S: Sink>(&mut self, out: &mut S)
+        ensures adds { Adds [] self.old (S.state out.old) self.new (S.state out.new) }
+        ensures room { length self.new.held + 32 ≤ 32768 }
+    {
+        if self.held.remaining_capacity() >= SPARE {
             return;
         }
-        self.pass_behind(out, &[byte]);
+        self.send(out);
+    }
+
+    /// Puts one byte, for which there is room.
+    #[inline(always)]
+    pub(crate) fn push(&mut self, byte: u8)
+        requires { length self.old.held < 32768 }
+        ensures holds { Holds (byte ∷ []) self.old self.new }
+        ensures long { length self.new.held ≡ length self.old.held + 1 }
+    {
+        self.held.push(byte);
     }
 
     /// Adds the digits of a number.
+    #[tactic(auto, using(crate::proofs::TextLemmas::adds_put))]
     pub(crate) fn number<S: Sink>(&mut self, out: &mut S, number: u64)
         ensures { Adds (decimal number) self.old (S.state out.old) self.new (S.state out.new) }
     {
-        let mut digits = Buffer::new();
-        self.word(out, digits.format(number).as_bytes());
+        self.make_room(out);
+        put_digits(number, self);
+    }
+
+    /// Adds the digits of a number, behind its sign where that is `-`.
+    #[tactic(auto, using(crate::proofs::TextLemmas::adds_put))]
+    pub(crate) fn integer<S: Sink>(&mut self, out: &mut S, number: i64)
+        ensures { Adds (signed_decimal number) self.old (S.state out.old) self.new (S.state out.new) }
+    {
+        self.make_room(out);
+        if number >= 0 {
+            return put_digits(number as u64, self);
+        }
+        self.push(b'-');
+        put_digits(number.unsigned_abs(), self);
     }
 
     /// Ends a line.
+    #[inline(always)]
     pub(crate) fn end_line<S: Sink>(&mut self, out: &mut S)
         ensures { Adds (10 ∷ []) self.old (S.state out.old) self.new (S.state out.new) }
     {

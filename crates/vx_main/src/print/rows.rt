@@ -1,13 +1,14 @@
 //! The texts of rows.
-ghost use Rattle.std.specs.Prelude.{◌≡◌, slice_index_or, true};
+ghost use Rattle.std.specs.Prelude.{◌≡◌, ◌+◌, ◌<◌, ◌≤◌, length, slice_index_or, true};
 ghost use Rattle.std.specs.Fmt.{signed_decimal};
 ghost use Rattle.std.specs.Option.{option_map};
 ghost use Rattle.vx_data.specs.Texts.{comma, quoted};
-ghost use Rattle.vx_rows.specs.Rows.{column_view, pairs_view};
+ghost use Rattle.vx_rows.specs.Rows.{column_view, pairs_view, structs};
 ghost use Rattle.vx_rows.specs.ValueTexts.{optional, bool_text, value_text, fields_text, lines_text};
 ghost use Rattle.vx_main.specs.RowsText.{rows_text};
-ghost use Rattle.vx_main.specs.Text.{Adds};
+ghost use Rattle.vx_main.specs.Text.{Adds, Holds};
 
+use crate::digits::put_digits;
 use crate::print::words::put_quoted;
 use crate::printable_rows::PrintableRows;
 use crate::text::TextOut;
@@ -16,6 +17,7 @@ use vx_base::Sink;
 use vx_rows::{Column, StructRows};
 
 /// Adds a truth value, or `~`.
+#[inline(always)]
 fn put_bool<S: Sink>(value: Option<bool>, text: &mut TextOut, out: &mut S)
     ensures { Adds (optional bool_text value) text.old (S.state out.old) text.new (S.state out.new) }
 {
@@ -26,19 +28,36 @@ fn put_bool<S: Sink>(value: Option<bool>, text: &mut TextOut, out: &mut S)
     }
 }
 
-/// Adds a decimal number. Nearly all fit 64 bits, whose digits are found faster.
-fn put_number<S: Sink>(number: i128, text: &mut TextOut, out: &mut S)
+/// Adds a decimal number that is negative, or has more than 64 bits.
+fn put_signed<S: Sink>(number: i128, text: &mut TextOut, out: &mut S)
     ensures { Adds (signed_decimal number) text.old (S.state out.old) text.new (S.state out.new) }
 {
-    let mut digits = Buffer::new();
     match i64::try_from(number) {
-        Ok(number) => text.word(out, digits.format(number).as_bytes()),
-        Err(_) => text.word(out, digits.format(number).as_bytes()),
+        Ok(number) => text.integer(out, number),
+        Err(_) => {
+            let mut digits = Buffer::new();
+            text.word(out, digits.format(number).as_bytes());
+        }
+    }
+}
+
+/// Adds a decimal number. Nearly all are unsigned numbers of 64 bits.
+#[inline(always)]
+#[tactic(auto, using(crate::proofs::TextLemmas::adds_holds))]
+fn put_number<S: Sink>(number: i128, text: &mut TextOut, out: &mut S)
+    requires { length text.old.held + 20 ≤ 32768 }
+    ensures { Adds (signed_decimal number) text.old (S.state out.old) text.new (S.state out.new) }
+{
+    match u64::try_from(number) {
+        Ok(number) => put_digits(number, text),
+        Err(_) => put_signed(number, text, out),
     }
 }
 
 /// Adds a decimal number, or `~`.
+#[inline(always)]
 fn put_int<S: Sink>(value: Option<i128>, text: &mut TextOut, out: &mut S)
+    requires { length text.old.held + 20 ≤ 32768 }
     ensures { Adds (optional signed_decimal value) text.old (S.state out.old) text.new (S.state out.new) }
 {
     match value {
@@ -48,6 +67,7 @@ fn put_int<S: Sink>(value: Option<i128>, text: &mut TextOut, out: &mut S)
 }
 
 /// Adds quoted text, or `~`.
+#[inline(always)]
 fn put_text<S: Sink>(value: Option<&str>, text: &mut TextOut, out: &mut S)
     ensures { Adds (optional quoted (option_map (λ v. v.now) value.entry)) text.old (S.state out.old) text.new (S.state out.new) }
 {
@@ -58,6 +78,7 @@ fn put_text<S: Sink>(value: Option<&str>, text: &mut TextOut, out: &mut S)
 }
 
 /// Whether a struct is not null, or there is no such row.
+#[inline(always)]
 fn is_there(rows: &StructRows, row: usize) -> bool
     ensures { result ≡ slice_index_or rows.now.present row true }
 {
@@ -67,47 +88,95 @@ fn is_there(rows: &StructRows, row: usize) -> bool
     rows.is_present(row)
 }
 
-/// Adds what stands before a field.
-fn put_comma<S: Sink>(is_first: bool, text: &mut TextOut, out: &mut S)
-    ensures { Adds (comma is_first) text.old (S.state out.old) text.new (S.state out.new) }
+/// Puts what stands before a field.
+#[inline(always)]
+fn put_comma(is_first: bool, text: &mut TextOut)
+    requires { length text.old.held < 32768 }
+    ensures holds { Holds (comma is_first) text.old text.new }
+    ensures long { length text.new.held ≤ length text.old.held + 1 }
 {
     if is_first {
         return;
     }
-    text.byte(out, b',');
+    text.push(b',');
 }
 
 /// Adds the values of fields at a row.
 #[cycle(printing)]
+#[inline(always)]
 #[tactic(auto, using(crate::proofs::RowLines::smaller_column))]
 fn put_all<S: Sink>(columns: &[(String, Column)], row: usize, text: &mut TextOut, out: &mut S)
     ensures { Adds (fields_text true (pairs_view columns.now) row) text.old (S.state out.old) text.new (S.state out.new) }
 {
     let mut is_first = true;
-    for at in 0..columns.len() {
-        put_comma(is_first, text, out);
-        put_value(&columns[at].1, row, text, out);
+    for column in columns {
+        text.make_room(out);
+        put_comma(is_first, text);
+        put_value(&column.1, row, text, out);
         is_first = false;
     }
+}
+
+/// Adds a struct at a row: its fields between brackets, or `~`.
+#[cycle(printing)]
+#[inline(always)]
+fn put_struct<S: Sink>(
+    rows: &StructRows,
+    columns: &[(String, Column)],
+    row: usize,
+    text: &mut TextOut,
+    out: &mut S,
+)
+    ensures { Adds (value_text (structs rows.now (pairs_view columns.now)) row) text.old (S.state out.old) text.new (S.state out.new) }
+{
+    if !is_there(rows, row) {
+        return text.byte(out, b'~');
+    }
+    text.byte(out, b'(');
+    put_all(columns, row, text, out);
+    text.byte(out, b')');
+}
+
+/// Adds a struct that is a field. Only here is a call made for a value, all else is compiled into the loop over rows.
+#[cycle(printing)]
+fn put_inner<S: Sink>(
+    rows: &StructRows,
+    columns: &[(String, Column)],
+    row: usize,
+    text: &mut TextOut,
+    out: &mut S,
+)
+    ensures { Adds (value_text (structs rows.now (pairs_view columns.now)) row) text.old (S.state out.old) text.new (S.state out.new) }
+{
+    put_struct(rows, columns, row, text, out);
 }
 
 /// Adds the value of a column at a row: `~` where it is null, else `true` or `false`, a decimal number, quoted text, or the
 /// fields between brackets.
 #[cycle(printing)]
+#[inline(always)]
 fn put_value<S: Sink>(column: &Column, row: usize, text: &mut TextOut, out: &mut S)
+    requires { length text.old.held + 20 ≤ 32768 }
     ensures { Adds (value_text (column_view column.now) row) text.old (S.state out.old) text.new (S.state out.new) }
 {
     match column {
         Column::Bool(values) => put_bool(values.get(row), text, out),
         Column::Int(values) => put_int(values.get(row), text, out),
         Column::Text(values) => put_text(values.get(row), text, out),
-        Column::Struct(rows, columns) => {
-            if !is_there(rows, row) {
-                return text.byte(out, b'~');
-            }
-            text.byte(out, b'(');
-            put_all(columns.as_slice(), row, text, out);
-            text.byte(out, b')');
+        Column::Struct(rows, columns) => put_inner(rows, columns.as_slice(), row, text, out),
+    }
+}
+
+/// Adds a row, which mostly is a struct.
+#[inline(always)]
+fn put_row<S: Sink>(column: &Column, row: usize, text: &mut TextOut, out: &mut S)
+    ensures { Adds (value_text (column_view column.now) row) text.old (S.state out.old) text.new (S.state out.new) }
+{
+    match column {
+        Column::Struct(rows, columns) => put_struct(rows, columns.as_slice(), row, text, out),
+        _ => {
+            text.make_room(out);
+            put_value(column, row, text, out);
         }
     }
 }
@@ -117,7 +186,7 @@ fn put_lines<S: Sink>(column: &Column, text: &mut TextOut, out: &mut S)
     ensures { Adds (lines_text (column_view column.now)) text.old (S.state out.old) text.new (S.state out.new) }
 {
     for row in 0..column.len() {
-        put_value(column, row, text, out);
+        put_row(column, row, text, out);
         text.end_line(out);
     }
 }

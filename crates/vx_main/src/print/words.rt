@@ -1,9 +1,9 @@
 //! Words and numbers, and quoted text.
-ghost use Rattle.std.specs.Prelude.{◌≡◌, ◌∷◌, [], ◌++◌, ◌<◌};
+ghost use Rattle.std.specs.Prelude.{◌≡◌, ◌+◌, ◌<◌, ◌≤◌, ◌/◌, ◌%◌, ◌∷◌, [], length};
 ghost use Rattle.std.specs.List.{flat_map, list_all};
 ghost use Rattle.vx_data.specs.Texts.{quoted, quoted_byte, is_quote_plain, upper_hex_digit};
 ghost use Rattle.vx_main.specs.Render.{numbers_after, words, line};
-ghost use Rattle.vx_main.specs.Text.{Adds};
+ghost use Rattle.vx_main.specs.Text.{Adds, Holds};
 
 use crate::text::TextOut;
 use vx_base::Sink;
@@ -34,10 +34,16 @@ pub(crate) fn put_line<S: Sink>(head: &[u8], numbers: &[u64], text: &mut TextOut
     text.end_line(out);
 }
 
+/// The bytes that stand for themselves, each at its place. At all other places stands another byte.
+static PLAIN: [u8; 256] =
+    *b"----------------------------------------------.-0123456789-------ABCDEFGHIJKLMNOPQRSTUVWXYZ----_-abcdefghijklmnopqrstuvwxyz-------------------------------------------------------------------------------------------------------------------------------------";
+
+/// Whether a byte stands for itself. It is looked up, which takes as few steps for one byte as for another.
+#[inline(always)]
 fn is_plain(byte: u8) -> bool
     ensures { result ≡ is_quote_plain byte }
 {
-    byte.is_ascii_alphanumeric() || byte == b'_' || byte == b'.' || byte == b'-'
+    PLAIN[byte as usize] == byte
 }
 
 /// The upper case digit of a number below 16.
@@ -52,38 +58,79 @@ fn hex_digit(number: u8) -> u8
     }
 }
 
+/// Adds the digits of a byte that does not stand for itself.
+#[cold]
+fn put_byte_digits<S: Sink>(byte: u8, text: &mut TextOut, out: &mut S)
+    ensures { Adds (37 ∷ upper_hex_digit (byte / 16) ∷ upper_hex_digit (byte % 16) ∷ []) text.old (S.state out.old) text.new (S.state out.new) }
+{
+    text.word(out, &[b'%', hex_digit(byte / 16), hex_digit(byte % 16)]);
+}
+
+#[inline(always)]
 fn put_quoted_byte<S: Sink>(byte: u8, text: &mut TextOut, out: &mut S)
     ensures { Adds (quoted_byte byte) text.old (S.state out.old) text.new (S.state out.new) }
 {
     if is_plain(byte) {
-        return text.word(out, &[byte]);
+        return text.byte(out, byte);
     }
-    text.word(out, &[b'%', hex_digit(byte / 16), hex_digit(byte % 16)]);
+    put_byte_digits(byte, text, out);
 }
 
+#[inline(always)]
+fn put_quoted_bytes<S: Sink>(bytes: &[u8], text: &mut TextOut, out: &mut S)
+    ensures { Adds (flat_map quoted_byte bytes.now) text.old (S.state out.old) text.new (S.state out.new) }
+{
+    for byte in bytes {
+        put_quoted_byte(*byte, text, out);
+    }
+}
+
+#[inline(always)]
 fn are_plain(bytes: &[u8]) -> bool
     ensures { result ≡ list_all is_quote_plain bytes.now }
 {
     bytes.iter().all(|byte| is_plain(*byte))
 }
 
-fn put_quoted_bytes<S: Sink>(bytes: &[u8], text: &mut TextOut, out: &mut S)
+/// Puts four bytes. All are read before one is written, so that they go by one change of the length.
+#[inline(always)]
+fn put_four(bytes: &[u8], text: &mut TextOut)
+    requires four { length bytes.now ≡ 4 }
+    requires room { length text.old.held + 4 ≤ 32768 }
+    ensures { Holds bytes.now text.old text.new }
+{
+    let (first, second, third, fourth) = (bytes[0], bytes[1], bytes[2], bytes[3]);
+    text.push(first);
+    text.push(second);
+    text.push(third);
+    text.push(fourth);
+}
+
+/// Adds the bytes of quoted text. Most stand for themselves, and are looked at and put by four.
+#[inline(always)]
+fn put_by_four<S: Sink>(bytes: &[u8], text: &mut TextOut, out: &mut S)
     ensures { Adds (flat_map quoted_byte bytes.now) text.old (S.state out.old) text.new (S.state out.new) }
 {
-    if are_plain(bytes) {
-        return text.word(out, bytes);
+    let mut rest = bytes;
+    while rest.len() >= 4 {
+        let (four, behind) = rest.split_at(4);
+        text.make_room(out);
+        if !are_plain(four) {
+            return put_quoted_bytes(rest, text, out);
+        }
+        put_four(four, text);
+        rest = behind;
     }
-    for byte in bytes {
-        put_quoted_byte(*byte, text, out);
-    }
+    put_quoted_bytes(rest, text, out);
 }
 
 /// Adds quoted text: one spelling for each text.
+#[inline(always)]
 pub(crate) fn put_quoted<S: Sink>(bytes: &[u8], text: &mut TextOut, out: &mut S)
     ensures { Adds (quoted bytes.now) text.old (S.state out.old) text.new (S.state out.new) }
 {
     if bytes.is_empty() {
-        return text.word(out, b"%");
+        return text.byte(out, b'%');
     }
-    put_quoted_bytes(bytes, text, out);
+    put_by_four(bytes, text, out);
 }

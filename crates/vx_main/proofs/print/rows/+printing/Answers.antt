@@ -1,20 +1,14 @@
 use Rattle.std.proofs.Common.{◌<◌, length, sym, subst, rules}
-use Rattle.std.specs.Prelude.{String}
-use Rattle.std.specs.Global.{Global}
-use Rattle.vx_rows.specs.declared.column.Column.{Column}
-use Rattle.vx_rows.specs.Rows.{column_view}
-use Rattle.vx_rows.specs.ValueTexts.{value_text}
 use Rattle.vx_rows.proofs.PrintedLemmas.{next_text}
 use Rattle.vx_main.specs.Text.{Adds}
-use Rattle.vx_main.proofs.TextLemmas.{adds_then}
+use Rattle.vx_main.proofs.TextLemmas.{adds_then, adds_put}
 use Rattle.vx_main.proofs.print.rows.+printing.Goals as goal
 
-pub put_all-loop-at-preserved : goal.put_all-loop-at-preserved
-put_all-loop-at-preserved g t c = λ text out more.
+pub put_all-loop-column-preserved : goal.put_all-loop-column-preserved
+put_all-loop-column-preserved g t c = λ text out more.
     let state = g.S.Sink.state in
-    let inside : c.loop-at.at < length c.args.columns.now = search rules in
-    let value = subst (λ (x : String Global × Column). Adds (value_text (column_view x.1) c.args.row) c.put_comma.new.text (state c.put_comma.new.out) c.put_value.new.text (state c.put_value.new.out)) (sym c.index-columns-at.is) c.put_value.ensures in
-    c.loop-at.invariant text out
-    (subst (λ b. Adds b c.loop-at.text (state c.loop-at.out) text out)
-    (sym (next_text c.loop-at.is_first c.args.columns.now c.loop-at.at c.index-columns-at.result c.args.row inside c.index-columns-at.is))
-    (adds_then (adds_then c.put_comma.ensures value) more))
+    let inside : c.loop-column.column-index < length c.args.columns.now = search rules in
+    c.loop-column.invariant text out
+    (subst (λ b. Adds b c.loop-column.text (state c.loop-column.out) text out)
+    (sym (next_text c.loop-column.is_first c.args.columns.now c.loop-column.column-index c.column-item.result c.args.row inside c.column-item.is))
+    (adds_then (adds_then (adds_put c.make_room.ensures.adds c.put_comma.ensures.holds) c.put_value.ensures) more))

@@ -12,7 +12,7 @@ loop-row-preserved g c = λ text out more.
     let less : c.loop-row.row < rows_len (column_view c.args.column.now) = omega (arith, c.loop-row-test.true, c.len-row-end.ensures) in
     c.loop-row.invariant text out
     (subst (λ b. Adds b c.loop-row.text (g.S.Sink.state c.loop-row.out) text out) (sym (next_line rows c.loop-row.row (rows_len rows) less))
-    (adds_then (adds_then c.put_value.ensures c.end_line.ensures) more))
+    (adds_then (adds_then c.put_row.ensures c.end_line.ensures) more))
 
 pub returns : goal.returns
 returns g c =
