@@ -1,7 +1,9 @@
 -- The values of fields, one after the other, and lines.
 use Rattle.std.proofs.Common.{◌≡◌, ℕ, zero, suc, ◌+◌, ◌-◌, ◌<◌, ◌≤◌, Bool, true, false, List, [], ◌∷◌, ◌++◌, length, get_or, set, take, drop, Option, Some, None, Ok, Err, refl, ap, sym, ◌∙◌, add-one, drop-cons, arith}
-use Rattle.std.specs.Prelude.{string_bytes, slice_index, ◌==◌, not}
-use Rattle.std.specs.List.{list_all}
+use Rattle.std.specs.Prelude.{string_bytes, slice_index, ◌==◌, ◌&&◌, ◌||◌, not}
+use Rattle.std.specs.List.{list_all, list_any}
+use Rattle.std.proofs.Math.Seq.{take-add}
+use Rattle.std.proofs.lemmas.List.Folds.{list_all-append}
 use Rattle.std.proofs.lemmas.Bool.Decides.{nat_tests}
 use Rattle.std.specs.Option.{option_map, option_and_then}
 use Rattle.std.proofs.lemmas.List.{take_more_set, take_all, drop-set-lt, drop_all, length-drop}
@@ -111,6 +113,19 @@ line_last t n some past other =
     line_unfed t some all ∙ ap (λ xs. xs ∷ []) (sym (take_all (length t) t (omega arith))) ∙ ap (λ xs. take (length t) t ∷ lines_of xs) (sym (drop_all (length t) t (omega arith)))
 
 pub ruleset line_steps = (other_more, line_cut, line_last)
+
+none-fed : (w : List ℕ) → list_any (λ c. c == 10) w ≡ false → list_all is_other w ≡ true
+none-fed [] h = refl
+none-fed (c ∷ cs) h = by (c == 10) h (λ e. none-fed cs e)
+  where
+    by : (b : Bool) → (b || list_any (λ c. c == 10) cs) ≡ false → (list_any (λ c. c == 10) cs ≡ false → list_all is_other cs ≡ true) → (not b && list_all is_other cs) ≡ true
+    by true e rest = cc
+    by false e rest = rest e
+
+-- a window without a line feed behind bytes without one
+pub window_more : (t : List ℕ) (n size : ℕ) → n + size ≤ length t → list_all is_other (take n t) ≡ true → list_any (λ c. c == 10) (take size (drop n t)) ≡ false → list_all is_other (take (n + size) t) ≡ true
+window_more t n size inside other none =
+    ap (list_all is_other) (take-add n size t) ∙ list_all-append is_other (take n t) (take size (drop n t)) ∙ ap (λ b. b && list_all is_other (take size (drop n t))) other ∙ none-fed (take size (drop n t)) none
 
 -- ---- rows
 

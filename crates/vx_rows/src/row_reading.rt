@@ -1,5 +1,6 @@
 //! Reads rows from text.
-ghost use Rattle.std.specs.Prelude.{◌≡◌, ◌+◌, ◌<◌, ◌≤◌, ℕ, List, ◌∷◌, [], true, length, IfOk};
+ghost use Rattle.std.specs.Prelude.{◌≡◌, ◌==◌, ◌+◌, ◌<◌, ◌≤◌, not, ℕ, List, ◌∷◌, [], true, length, take, IfOk};
+ghost use Rattle.std.specs.List.{list_all, list_any};
 ghost use Rattle.std.specs.Option.{option_and_then};
 ghost use Rattle.vx_base.specs.Checks.{Gives, ◌lacking◌};
 ghost use Rattle.vx_data.specs.Dtype.{dtype_view};
@@ -17,6 +18,9 @@ use crate::value_reading::{after_byte, read_null};
 use crate::{Column, RowsError};
 use std::alloc::Global;
 use vx_data::{DType, TextError};
+
+/// How many bytes are looked at at once for a line feed.
+const WINDOW: usize = 16;
 
 /// What follows a byte, which must come.
 #[inline(always)]
@@ -116,6 +120,26 @@ fn read_value<'a>(
     }
 }
 
+/// Whether there is a line feed.
+#[inline(always)]
+fn has_feed(bytes: &[u8]) -> bool
+    ensures { result ≡ list_any (λ b. b == 10) bytes.now }
+{
+    bytes.contains(&b'\n')
+}
+
+/// How many bytes in front have no line feed, as far as whole windows tell.
+fn unfed_length(text: &[u8]) -> usize
+    ensures inside { result ≤ length text.now }
+    ensures other { list_all (λ b. not (b == 10)) (take result text.now) ≡ true }
+{
+    let mut at = 0;
+    while text.len() - at >= WINDOW && !has_feed(&text[at..at + WINDOW]) {
+        at += WINDOW;
+    }
+    at
+}
+
 /// The first line, and what follows its line feed, which may lack at the end.
 #[tactic(auto, using(crate::proofs::ReadingLemmas::line_steps))]
 fn split_line(text: &[u8]) -> (&[u8], &[u8])
@@ -123,7 +147,7 @@ fn split_line(text: &[u8]) -> (&[u8], &[u8])
     ensures value { lines_of text.now ≡ result.0.now ∷ lines_of result.1.now }
     ensures shorter { length result.1.now < length text.now }
 {
-    for at in 0..text.len() {
+    for at in unfed_length(text)..text.len() {
         if text[at] == b'\n' {
             return (&text[..at], &text[at + 1..]);
         }
