@@ -7,7 +7,7 @@ ghost use Rattle.vx_rows.specs.Columns.{text_row, AreRanges, AreTexts, may_hold}
 ghost use Rattle.vx_rows.specs.Rows.{texts, AreUtf8};
 ghost use Rattle.vx_rows.specs.Parts.{plain_size};
 ghost use Rattle.vx_rows.specs.Written.{text_bytes, length_bytes, texts_bytes};
-ghost use Rattle.vx_rows.specs.TextsBehind.{end_from, ComeBehind};
+ghost use Rattle.vx_rows.specs.TextsBehind.{length_from, end_from, ComeBehind};
 ghost use Rattle.std.specs.List.{flat_map};
 ghost use Rattle.std.specs.Int.{w32, to_le_bytes};
 
@@ -80,11 +80,32 @@ fn all_between<'a>(bytes: &'a [u8], places: &TextPlaces, rows: usize) -> &'a [u8
 }
 
 /// Adds the low 32 bits of a length. A greater one makes the array too long.
+#[inline(always)]
 fn push_length(bytes: &mut Vec<u8>, length: usize) -> Result<(), AllocError>
     ensures { OnOk result (bytes.new.items ≡ bytes.old.items ++ to_le_bytes w32 length) }
 {
     let low = (length % (1 << 32)) as u32;
     bytes.extend_from_slice(&low.to_le_bytes())
+}
+
+/// Adds the length of each of so many rows, from its place to the next.
+#[tactic(auto, using(crate::proofs::BehindLemmas::lengths_more))]
+fn push_lengths_between(
+    bytes: &mut Vec<u8>,
+    places: &TextPlaces,
+    rows: usize,
+) -> Result<(), AllocError>
+    requires long { length places.now ≡ rows + 1 }
+    requires ordered { (row : ℕ) → row < rows → slice_index places.now row ≤ slice_index places.now (row + 1) }
+    ensures { OnOk result (bytes.new.items ≡ bytes.old.items ++ flat_map (to_le_bytes w32) (span (length_from places.now) 0 rows)) }
+{
+    let mut place = places.at(0);
+    for row in 0..rows {
+        let next = places.behind(row);
+        push_length(bytes, next - place)?;
+        place = next;
+    }
+    Ok(())
 }
 
 /// Adds the place behind each of so many rows, where the first of them comes at a place. Only memory refuses, and then some
@@ -204,11 +225,14 @@ impl TextColumn {
         }
     }
 
-    /// Adds the length of each text.
+    /// Adds the length of each text. Where no row is null the places alone tell them.
     #[tactic(auto, using(crate::proofs::WrittenLemmas::next_row))]
     fn push_lengths(&self, bytes: &mut Vec<u8>) -> Result<(), AllocError>
         ensures { OnOk result (bytes.new.items ≡ bytes.old.items ++ flat_map length_bytes self.now.rows) }
     {
+        if self.present.is_none() {
+            return push_lengths_between(bytes, &self.places, self.count);
+        }
         for row in 0..self.len() {
             push_length(bytes, self.text_or_empty(row).len())?;
         }
@@ -305,10 +329,15 @@ impl TextColumn {
         self.may_be_null || are_all_present(&self.present)
     }
 
-    /// How many bytes the texts have.
+    /// How many bytes the texts have. Where no row is null they stand one behind the other.
+    #[tactic(auto, using(crate::proofs::BehindLemmas::last_inside))]
     fn bytes_len(&self) -> u64
         ensures { result ≡ min (sum_by (λ row. length (text_bytes row)) self.now.rows) (2 ^ 64 - 1) }
     {
+        if self.present.is_none() && self.count > 0 {
+            let all = all_between(self.held.as_slice(), &self.places, self.count);
+            return all.len() as u64;
+        }
         let mut size: u64 = 0;
         for row in 0..self.len() {
             size = size.saturating_add(self.text_or_empty(row).len() as u64);
