@@ -1,7 +1,7 @@
 -- Places of which the first are kept in four bytes each, and the others behind them.
 use Rattle.std.proofs.Common.{◌≡◌, ℕ, zero, suc, ◌+◌, ◌-◌, ◌<◌, ◌≤◌, List, [], ◌∷◌, ◌++◌, length, take, drop, refl, ap, sym, ◌∙◌, arith, length-append, append-nil, append_assoc}
 use Rattle.std.specs.Prelude.{slice_index, slice_range}
-use Rattle.std.proofs.lemmas.List.{get_or_append_left, get_or-append_right, length-drop}
+use Rattle.std.proofs.lemmas.List.{get_or_append_left, get_or-append_right, length-drop, take_all}
 
 pub long : (xs ys : List ℕ) → length (xs ++ ys) ≡ length xs + length ys
 long xs ys = length-append xs ys
@@ -15,6 +15,9 @@ place_behind xs ys i l = get_or-append_right xs ys (length xs) i 0 refl l
 pub narrow_more : (xs ys : List ℕ) (p : ℕ) → ys ≡ [] → (xs ++ p ∷ []) ++ ys ≡ (xs ++ ys) ++ p ∷ []
 narrow_more xs ys p e =
     ap (λ zs. (xs ++ p ∷ []) ++ zs) e ∙ append-nil (xs ++ p ∷ []) ∙ ap (λ zs. zs ++ p ∷ []) (sym (append-nil xs)) ∙ ap (λ zs. (xs ++ zs) ++ p ∷ []) (sym e)
+
+pub all_narrow : (xs ys : List ℕ) → ys ≡ [] → xs ++ ys ≡ xs
+all_narrow xs ys e = ap (λ zs. xs ++ zs) e ∙ append-nil xs
 
 pub wide_more : (xs ys : List ℕ) (p : ℕ) → xs ++ (ys ++ p ∷ []) ≡ (xs ++ ys) ++ p ∷ []
 wide_more xs ys p = sym (append_assoc xs ys (p ∷ []))
@@ -41,3 +44,11 @@ part_both xs ys a b o =
     let e : b - a - length (drop a xs) ≡ b - length xs - (a - length xs) = omega (arith, size, o) in
     ap (take (b - a)) (drop-both a xs ys) ∙ take_both (b - a) (drop a xs) (drop (a - length xs) ys)
     ∙ ap (λ k. slice_range xs a b ++ take k (drop (a - length xs) ys)) e
+
+-- ends that are added in four bytes, where there are no others
+pub ends_narrow : (xs xs' ys ends : List ℕ) → ys ≡ [] → xs' ≡ xs ++ ends → xs' ++ ys ≡ (xs ++ ys) ++ ends
+ends_narrow xs xs' ys ends e p = all_narrow xs' ys e ∙ p ∙ ap (λ zs. zs ++ ends) (sym (all_narrow xs ys e))
+
+-- where memory refuses, the others are as they were
+pub ends_kept : (xs xs' ys : List ℕ) → xs' ≡ xs → take (length (xs ++ ys)) (xs' ++ ys) ≡ xs ++ ys
+ends_kept xs xs' ys e = ap (λ zs. take (length (xs ++ ys)) (zs ++ ys)) e ∙ take_all (length (xs ++ ys)) (xs ++ ys) (omega arith)

@@ -108,28 +108,6 @@ fn push_lengths_between(
     Ok(())
 }
 
-/// Adds the place behind each of so many rows, where the first of them comes at a place. Only memory refuses, and then some
-/// of them may be there.
-#[tactic(auto, using(crate::proofs::SpanLemmas::span_more))]
-fn push_ends(
-    ends: &mut TextPlaces,
-    places: &TextPlaces,
-    rows: usize,
-    start: usize,
-) -> Result<(), AllocError>
-    requires long { length places.now ≡ rows + 1 }
-    requires least { (row : ℕ) → row ≤ rows → slice_index places.now 0 ≤ slice_index places.now row }
-    requires few { (row : ℕ) → row ≤ rows → start + (slice_index places.now row - slice_index places.now 0) < 2 ^ 64 }
-    ensures ok { OnOk result (ends.new ≡ ends.old ++ span (end_from places.now start) 0 rows) }
-    ensures err { OnErr result (take (length ends.old) ends.new ≡ ends.old) }
-{
-    let first = places.at(0);
-    for row in 0..rows {
-        ends.push(start + (places.behind(row) - first))?;
-    }
-    Ok(())
-}
-
 impl TextColumn {
     /// Texts between places. Only memory refuses.
     pub(crate) fn new(
@@ -284,7 +262,7 @@ impl TextColumn {
         let count = places.len();
         let all = all_between(self.held.as_slice(), &self.places, self.count);
         bytes.extend_from_slice(all)?;
-        match push_ends(places, &self.places, self.count, start) {
+        match places.push_ends(&self.places, self.count, start) {
             Ok(()) => Ok(()),
             Err(error) => {
                 bytes.truncate(start);
