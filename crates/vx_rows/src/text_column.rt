@@ -16,6 +16,7 @@ use crate::int_column::has_value;
 use crate::parts::{are_all_present, flags_of, part_of};
 use crate::plain_size::size_of_texts;
 use crate::presence::push_presence;
+use crate::shared_places::SharedPlaces;
 use crate::text_places::TextPlaces;
 use std::alloc::{AllocError, Global};
 use std::marker::Model;
@@ -28,7 +29,7 @@ pub struct TextColumn {
     count: usize,
     present: Option<Bits>,
     held: ByteBuffer,
-    places: TextPlaces,
+    places: SharedPlaces,
 }
 
 impl Model for TextColumn {
@@ -55,7 +56,7 @@ pub fn text_of(bytes: &[u8]) -> &str
 
 /// The text between the place of a row and the next.
 #[inline(always)]
-fn text_between<'a>(bytes: &'a [u8], places: &TextPlaces, rows: usize, row: usize) -> &'a str
+fn text_between<'a>(bytes: &'a [u8], places: &SharedPlaces, rows: usize, row: usize) -> &'a str
     requires long { length places.now ≡ rows + 1 }
     requires less { row < rows }
     requires ranges { AreRanges bytes.now places.now rows }
@@ -68,7 +69,7 @@ fn text_between<'a>(bytes: &'a [u8], places: &TextPlaces, rows: usize, row: usiz
 }
 
 /// The bytes between the place of the first row and the one behind the last.
-fn all_between<'a>(bytes: &'a [u8], places: &TextPlaces, rows: usize) -> &'a [u8]
+fn all_between<'a>(bytes: &'a [u8], places: &SharedPlaces, rows: usize) -> &'a [u8]
     requires long { length places.now ≡ rows + 1 }
     requires ordered { slice_index places.now 0 ≤ slice_index places.now rows }
     requires inside { slice_index places.now rows ≤ length bytes.now }
@@ -92,7 +93,7 @@ fn push_length(bytes: &mut Vec<u8>, length: usize) -> Result<(), AllocError>
 #[tactic(auto, using(crate::proofs::BehindLemmas::lengths_more))]
 fn push_lengths_between(
     bytes: &mut Vec<u8>,
-    places: &TextPlaces,
+    places: &SharedPlaces,
     rows: usize,
 ) -> Result<(), AllocError>
     requires long { length places.now ≡ rows + 1 }
@@ -109,13 +110,13 @@ fn push_lengths_between(
 }
 
 impl TextColumn {
-    /// Texts between places. Only memory refuses.
-    pub(crate) fn new(
+    /// Texts between places that others may share. Only memory refuses.
+    fn with_places(
         alloc: Global,
         may_be_null: bool,
         present: Option<Bits>,
         held: &ByteBuffer,
-        places: TextPlaces,
+        places: SharedPlaces,
         count: usize,
     ) -> Result<TextColumn, AllocError>
         requires long { length places ≡ count + 1 }
@@ -134,6 +135,28 @@ impl TextColumn {
             held: held.share(alloc)?,
             places,
         })
+    }
+
+    /// Texts between places. Only memory refuses.
+    pub(crate) fn new(
+        alloc: Global,
+        may_be_null: bool,
+        present: Option<Bits>,
+        held: &ByteBuffer,
+        places: TextPlaces,
+        count: usize,
+    ) -> Result<TextColumn, AllocError>
+        requires long { length places ≡ count + 1 }
+        requires present { IfSome present (λ bits. length bits ≡ count) }
+        requires ranges { AreRanges held.now.bytes places count }
+        requires texts { AreTexts held.now.bytes places count }
+        ensures { IfOk result (λ c. c ≡ record {
+          nullable = may_be_null;
+          rows = span (text_row present held.now.bytes places) 0 count;
+        }) }
+    {
+        let places = SharedPlaces::new(alloc, places)?;
+        TextColumn::with_places(alloc, may_be_null, present, held, places, count)
     }
 
     /// Whether a row may be null.
@@ -272,7 +295,7 @@ impl TextColumn {
         }
     }
 
-    /// The rows from one on, up to another. Only memory refuses.
+    /// The rows from one on, up to another, with the same bytes and places. Only memory refuses.
     #[tactic(auto, using(crate::proofs::CutLemmas::texts_cut, crate::proofs::CutLemmas::texts_cut_long, crate::proofs::CutLemmas::ranges_cut, crate::proofs::CutLemmas::utf8_cut, crate::proofs::CutLemmas::present_long, crate::proofs::SpanLemmas::length_span))]
     pub(crate) fn part(
         &self,
@@ -286,8 +309,8 @@ impl TextColumn {
     {
         let present = part_of(alloc, &self.present, from, to)?;
         prove!(to < self.places.len());
-        let places = self.places.part(alloc, from, to + 1)?;
-        let column = TextColumn::new(
+        let places = self.places.part(from, to + 1)?;
+        let column = TextColumn::with_places(
             alloc,
             self.may_be_null,
             present,

@@ -3,6 +3,7 @@ ghost use Rattle.std.specs.Prelude.{◌≡◌, ◌+◌, ◌++◌, ◌∷◌, ◌
 ghost use Rattle.vx_rows.specs.Span.{span};
 ghost use Rattle.vx_rows.specs.TextsBehind.{end_from};
 
+use crate::shared_places::SharedPlaces;
 use std::alloc::{AllocError, Global};
 use std::marker::Model;
 
@@ -97,7 +98,7 @@ impl TextPlaces {
     #[tactic(auto, using(crate::proofs::SpanLemmas::span_more, crate::proofs::PlacesLemmas::all_narrow))]
     pub(crate) fn push_ends(
         &mut self,
-        places: &TextPlaces,
+        places: &SharedPlaces,
         rows: usize,
         start: usize,
     ) -> Result<(), AllocError>
@@ -170,7 +171,7 @@ fn between<T: Copy>(all: &[T], from: usize, to: usize) -> &[T]
 #[tactic(auto, using(crate::proofs::SpanLemmas::span_more))]
 fn push_narrow_ends(
     narrow: &mut Vec<u32>,
-    places: &TextPlaces,
+    places: &SharedPlaces,
     rows: usize,
     start: usize,
 ) -> Result<(), AllocError>
