@@ -1,18 +1,21 @@
 -- Texts whose bytes and places come behind those of others.
-use Rattle.std.proofs.Common.{◌≡◌, ℕ, zero, suc, ◌+◌, ◌-◌, ◌<◌, ◌≤◌, Bool, true, false, cond, List, ◌∷◌, ◌++◌, length, map, take, drop, Option, Some, None, is_some, refl, ap, sym, ◌∙◌, subst, arith, length-append, ◌⊎◌, inl, inr}
+use Rattle.std.proofs.Common.{◌≡◌, ℕ, zero, suc, ◌+◌, ◌-◌, ◌<◌, ◌≤◌, Bool, true, false, cond, List, ◌∷◌, ◌++◌, length, map, take, drop, Option, Some, None, is_some, refl, ap, sym, ◌∙◌, subst, arith, length-append, append-nil, append_assoc, [], sum_by, ◌⊎◌, inl, inr}
 use Rattle.std.specs.Prelude.{slice_index, slice_index_or, slice_range}
 use Rattle.std.specs.Str.{IsUtf8}
 use Rattle.std.proofs.Math.Seq.{drop-append-add, take-add}
 use Rattle.std.specs.List.{flat_map}
-use Rattle.vx_rows.specs.Written.{text_bytes}
+use Rattle.std.specs.Int.{w32, to_le_bytes}
+use Rattle.std.proofs.lemmas.List.Concat.{length-flat_map}
+use Rattle.std.proofs.lemmas.Grind.{flat_map-append}
+use Rattle.vx_rows.specs.Written.{text_bytes, length_bytes}
 use Rattle.std.proofs.lemmas.List.{get_or-append-add, get_or_append_left, get_or-map, length-drop, length-take-le, drop-drop}
 use Rattle.std.proofs.lemmas.Bool.{cases_lt}
 use Rattle.vx_rows.specs.Span.{span}
 use Rattle.vx_rows.specs.Bits.{present_at}
 use Rattle.vx_rows.specs.Columns.{Texts, Structs, text_row, AreRanges, AreTexts, may_hold}
 use Rattle.vx_rows.specs.Kept.{kept}
-use Rattle.vx_rows.specs.TextsBehind.{end_from, ComeBehind}
-use Rattle.vx_rows.proofs.SpanLemmas.{length_span, get_or_span, span_same}
+use Rattle.vx_rows.specs.TextsBehind.{length_from, end_from, ComeBehind}
+use Rattle.vx_rows.proofs.SpanLemmas.{length_span, get_or_span, span_push, span_same}
 use Rattle.vx_rows.proofs.CutLemmas.{span_moved}
 use Rattle.vx_rows.proofs.ColumnLaws.{part-of-part}
 use Rattle.vx_rows.proofs.MakingLemmas.{span_list, map_long}
@@ -298,3 +301,45 @@ texts_at_once held q count r = let z : 0 + count ≡ count = omega arith in run 
         ∙ adjacent held (slice_index q k) (slice_index q (k + 1)) (slice_index q (k + 1 + m)) (r.ordered k (omega (arith, h)))
         (places_ascend held q count r (k + 1) (k + 1 + m) (omega arith) (omega (arith, h)))
         ∙ ap (λ j. slice_range held (slice_index q k) (slice_index q j)) e
+
+-- all texts of a column without a bitmap
+pub texts_together : (nullable : Bool) (present : Option (List Bool)) (held q : List ℕ) (count : ℕ) (c : Texts) → record { nullable = nullable; rows = span (text_row present held q) 0 count } ≡ c
+    → present ≡ None → AreRanges held q count → slice_range held (slice_index q 0) (slice_index q count) ≡ flat_map text_bytes c.rows
+texts_together nullable present held q count c e none r =
+    sym (texts_at_once held q count r) ∙ ap (λ (p : Option (List Bool)). flat_map text_bytes (span (text_row p held q) 0 count)) (sym none) ∙ ap (λ (t : Texts). flat_map text_bytes t.rows) e
+
+-- and how long they are together
+pub texts_sum : (nullable : Bool) (present : Option (List Bool)) (held q : List ℕ) (count : ℕ) (c : Texts) → record { nullable = nullable; rows = span (text_row present held q) 0 count } ≡ c
+    → present ≡ None → AreRanges held q count → length (slice_range held (slice_index q 0) (slice_index q count)) ≡ sum_by (λ row. length (text_bytes row)) c.rows
+texts_sum nullable present held q count c e none r = ap length (texts_together nullable present held q count c e none r) ∙ length-flat_map text_bytes c.rows
+
+-- ---- lengths by places
+
+pub lengths_more : (front : List ℕ) (f : ℕ → ℕ) (k : ℕ) → (front ++ flat_map (to_le_bytes w32) (span f 0 k)) ++ to_le_bytes w32 (f k) ≡ front ++ flat_map (to_le_bytes w32) (span f 0 (k + 1))
+lengths_more front f k =
+    let z : k ≡ 0 + k = omega arith in
+    append_assoc front (flat_map (to_le_bytes w32) (span f 0 k)) (to_le_bytes w32 (f k))
+    ∙ ap (λ xs. front ++ xs)
+    (ap (λ xs. flat_map (to_le_bytes w32) (span f 0 k) ++ xs) (sym (append-nil (to_le_bytes w32 (f k))) ∙ ap (λ i. to_le_bytes w32 (f i) ++ []) z)
+    ∙ sym (flat_map-append (to_le_bytes w32) (span f 0 k) (f (0 + k) ∷ [])) ∙ ap (flat_map (to_le_bytes w32)) (sym (span_push f 0 k)))
+
+lengths_at_once : (held q : List ℕ) (count : ℕ) → AreRanges held q count → flat_map (to_le_bytes w32) (span (length_from q) 0 count) ≡ flat_map length_bytes (span (text_row None held q) 0 count)
+lengths_at_once held q count r = run 0 count (omega arith)
+  where
+    long : (k : ℕ) → k < count → length_from q k ≡ length (slice_range held (slice_index q k) (slice_index q (k + 1)))
+    long k l =
+        let size = length-drop (slice_index q k) held in
+        let inside = r.inside k l in
+        sym (length-take-le (length_from q k) (drop (slice_index q k) held) (omega (arith, size, inside)))
+
+    run : (k m : ℕ) → k + m ≤ count → flat_map (to_le_bytes w32) (span (length_from q) k m) ≡ flat_map length_bytes (span (text_row None held q) k m)
+    run k zero h = refl
+    run k (suc m) h =
+        ap (λ n. to_le_bytes w32 n ++ flat_map (to_le_bytes w32) (span (length_from q) (k + 1) m)) (long k (omega (arith, h)))
+        ∙ ap (λ ys. length_bytes (text_row None held q k) ++ ys) (run (k + 1) m (omega (arith, h)))
+
+pub lengths_together : (nullable : Bool) (present : Option (List Bool)) (held q : List ℕ) (count : ℕ) (c : Texts) → record { nullable = nullable; rows = span (text_row present held q) 0 count } ≡ c
+    → present ≡ None → AreRanges held q count → flat_map (to_le_bytes w32) (span (length_from q) 0 count) ≡ flat_map length_bytes c.rows
+lengths_together nullable present held q count c e none r =
+    lengths_at_once held q count r ∙ ap (λ (p : Option (List Bool)). flat_map length_bytes (span (text_row p held q) 0 count)) (sym none)
+    ∙ ap (λ (t : Texts). flat_map length_bytes t.rows) e

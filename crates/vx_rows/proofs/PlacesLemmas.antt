@@ -1,7 +1,8 @@
 -- Places of which the first are kept in four bytes each, and the others behind them.
 use Rattle.std.proofs.Common.{◌≡◌, ℕ, zero, suc, ◌+◌, ◌-◌, ◌<◌, ◌≤◌, List, [], ◌∷◌, ◌++◌, length, take, drop, refl, ap, sym, ◌∙◌, arith, length-append, append-nil, append_assoc}
 use Rattle.std.specs.Prelude.{slice_index, slice_range}
-use Rattle.std.proofs.lemmas.List.{get_or_append_left, get_or-append_right, length-drop}
+use Rattle.std.proofs.lemmas.List.{get_or_append_left, get_or-append_right, get_or-drop, get_or-take, length-drop, length-take-le, take_all}
+use Rattle.vx_rows.proofs.ColumnLaws.{part-of-part}
 
 pub long : (xs ys : List ℕ) → length (xs ++ ys) ≡ length xs + length ys
 long xs ys = length-append xs ys
@@ -15,6 +16,9 @@ place_behind xs ys i l = get_or-append_right xs ys (length xs) i 0 refl l
 pub narrow_more : (xs ys : List ℕ) (p : ℕ) → ys ≡ [] → (xs ++ p ∷ []) ++ ys ≡ (xs ++ ys) ++ p ∷ []
 narrow_more xs ys p e =
     ap (λ zs. (xs ++ p ∷ []) ++ zs) e ∙ append-nil (xs ++ p ∷ []) ∙ ap (λ zs. zs ++ p ∷ []) (sym (append-nil xs)) ∙ ap (λ zs. (xs ++ zs) ++ p ∷ []) (sym e)
+
+pub all_narrow : (xs ys : List ℕ) → ys ≡ [] → xs ++ ys ≡ xs
+all_narrow xs ys e = ap (λ zs. xs ++ zs) e ∙ append-nil xs
 
 pub wide_more : (xs ys : List ℕ) (p : ℕ) → xs ++ (ys ++ p ∷ []) ≡ (xs ++ ys) ++ p ∷ []
 wide_more xs ys p = sym (append_assoc xs ys (p ∷ []))
@@ -41,3 +45,25 @@ part_both xs ys a b o =
     let e : b - a - length (drop a xs) ≡ b - length xs - (a - length xs) = omega (arith, size, o) in
     ap (take (b - a)) (drop-both a xs ys) ∙ take_both (b - a) (drop a xs) (drop (a - length xs) ys)
     ∙ ap (λ k. slice_range xs a b ++ take k (drop (a - length xs) ys)) e
+
+-- ends that are added in four bytes, where there are no others
+pub ends_narrow : (xs xs' ys ends : List ℕ) → ys ≡ [] → xs' ≡ xs ++ ends → xs' ++ ys ≡ (xs ++ ys) ++ ends
+ends_narrow xs xs' ys ends e p = all_narrow xs' ys e ∙ p ∙ ap (λ zs. zs ++ ends) (sym (all_narrow xs ys e))
+
+-- where memory refuses, the others are as they were
+pub ends_kept : (xs xs' ys : List ℕ) → xs' ≡ xs → take (length (xs ++ ys)) (xs' ++ ys) ≡ xs ++ ys
+ends_kept xs xs' ys e = ap (λ zs. take (length (xs ++ ys)) (zs ++ ys)) e ∙ take_all (length (xs ++ ys)) (xs ++ ys) (omega arith)
+
+-- ---- places from a position on, up to another
+
+pub window_long : (xs : List ℕ) (a b : ℕ) → b ≤ length xs → length (slice_range xs a b) ≡ b - a
+window_long xs a b h = let size = length-drop a xs in length-take-le (b - a) (drop a xs) (omega (arith, size, h))
+
+pub window_at : (xs : List ℕ) (a b i : ℕ) → i < b - a → slice_index (slice_range xs a b) i ≡ slice_index xs (a + i)
+window_at xs a b i l = get_or-take (b - a) (drop a xs) i 0 l ∙ get_or-drop a xs i 0
+
+pub window_part : (xs : List ℕ) (a b from to : ℕ) → from ≤ to → to ≤ b - a → slice_range (slice_range xs a b) from to ≡ slice_range xs (a + from) (a + to)
+window_part xs a b from to o h = part-of-part xs a b from to o h
+
+pub window_all : (xs : List ℕ) → slice_range xs 0 (length xs) ≡ xs
+window_all xs = let e : length xs - 0 ≡ length xs = omega arith in ap (λ n. take n xs) e ∙ take_all (length xs) xs (omega arith)

@@ -2,6 +2,10 @@
 use Rattle.std.specs.Prelude.{◌≡◌, ℕ, ◌+◌, ◌-◌, ◌<◌, List, length, slice_index, slice_index_or, slice_range, Option, Some, None}
 use Rattle.vx_rows.specs.Columns.{AreRanges, AreTexts}
 
+-- how far the place of a row is from the next
+abbrev pub length_from : List ℕ → ℕ → ℕ
+length_from places row = slice_index places (row + 1) - slice_index places row
+
 -- the place behind a row, where the first of the rows comes at a place
 abbrev pub end_from : List ℕ → ℕ → ℕ → ℕ
 end_from places start row = start + (slice_index places (row + 1) - slice_index places 0)

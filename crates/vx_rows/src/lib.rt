@@ -43,6 +43,7 @@ mod row_reading;
 mod rows_back;
 mod rows_error;
 mod running_stats;
+mod shared_places;
 mod sharing;
 mod struct_rows;
 mod text_builder;

@@ -7,7 +7,7 @@ ghost use Rattle.vx_rows.specs.Columns.{text_row, AreRanges, AreTexts, may_hold}
 ghost use Rattle.vx_rows.specs.Rows.{texts, AreUtf8};
 ghost use Rattle.vx_rows.specs.Parts.{plain_size};
 ghost use Rattle.vx_rows.specs.Written.{text_bytes, length_bytes, texts_bytes};
-ghost use Rattle.vx_rows.specs.TextsBehind.{end_from, ComeBehind};
+ghost use Rattle.vx_rows.specs.TextsBehind.{length_from, end_from, ComeBehind};
 ghost use Rattle.std.specs.List.{flat_map};
 ghost use Rattle.std.specs.Int.{w32, to_le_bytes};
 
@@ -16,6 +16,7 @@ use crate::int_column::has_value;
 use crate::parts::{are_all_present, flags_of, part_of};
 use crate::plain_size::size_of_texts;
 use crate::presence::push_presence;
+use crate::shared_places::SharedPlaces;
 use crate::text_places::TextPlaces;
 use std::alloc::{AllocError, Global};
 use std::marker::Model;
@@ -28,7 +29,7 @@ pub struct TextColumn {
     count: usize,
     present: Option<Bits>,
     held: ByteBuffer,
-    places: TextPlaces,
+    places: SharedPlaces,
 }
 
 impl Model for TextColumn {
@@ -55,7 +56,7 @@ pub fn text_of(bytes: &[u8]) -> &str
 
 /// The text between the place of a row and the next.
 #[inline(always)]
-fn text_between<'a>(bytes: &'a [u8], places: &TextPlaces, rows: usize, row: usize) -> &'a str
+fn text_between<'a>(bytes: &'a [u8], places: &SharedPlaces, rows: usize, row: usize) -> &'a str
     requires long { length places.now ≡ rows + 1 }
     requires less { row < rows }
     requires ranges { AreRanges bytes.now places.now rows }
@@ -68,7 +69,7 @@ fn text_between<'a>(bytes: &'a [u8], places: &TextPlaces, rows: usize, row: usiz
 }
 
 /// The bytes between the place of the first row and the one behind the last.
-fn all_between<'a>(bytes: &'a [u8], places: &TextPlaces, rows: usize) -> &'a [u8]
+fn all_between<'a>(bytes: &'a [u8], places: &SharedPlaces, rows: usize) -> &'a [u8]
     requires long { length places.now ≡ rows + 1 }
     requires ordered { slice_index places.now 0 ≤ slice_index places.now rows }
     requires inside { slice_index places.now rows ≤ length bytes.now }
@@ -80,6 +81,7 @@ fn all_between<'a>(bytes: &'a [u8], places: &TextPlaces, rows: usize) -> &'a [u8
 }
 
 /// Adds the low 32 bits of a length. A greater one makes the array too long.
+#[inline(always)]
 fn push_length(bytes: &mut Vec<u8>, length: usize) -> Result<(), AllocError>
     ensures { OnOk result (bytes.new.items ≡ bytes.old.items ++ to_le_bytes w32 length) }
 {
@@ -87,36 +89,34 @@ fn push_length(bytes: &mut Vec<u8>, length: usize) -> Result<(), AllocError>
     bytes.extend_from_slice(&low.to_le_bytes())
 }
 
-/// Adds the place behind each of so many rows, where the first of them comes at a place. Only memory refuses, and then some
-/// of them may be there.
-#[tactic(auto, using(crate::proofs::SpanLemmas::span_more))]
-fn push_ends(
-    ends: &mut TextPlaces,
-    places: &TextPlaces,
+/// Adds the length of each of so many rows, from its place to the next.
+#[tactic(auto, using(crate::proofs::BehindLemmas::lengths_more))]
+fn push_lengths_between(
+    bytes: &mut Vec<u8>,
+    places: &SharedPlaces,
     rows: usize,
-    start: usize,
 ) -> Result<(), AllocError>
     requires long { length places.now ≡ rows + 1 }
-    requires least { (row : ℕ) → row ≤ rows → slice_index places.now 0 ≤ slice_index places.now row }
-    requires few { (row : ℕ) → row ≤ rows → start + (slice_index places.now row - slice_index places.now 0) < 2 ^ 64 }
-    ensures ok { OnOk result (ends.new ≡ ends.old ++ span (end_from places.now start) 0 rows) }
-    ensures err { OnErr result (take (length ends.old) ends.new ≡ ends.old) }
+    requires ordered { (row : ℕ) → row < rows → slice_index places.now row ≤ slice_index places.now (row + 1) }
+    ensures { OnOk result (bytes.new.items ≡ bytes.old.items ++ flat_map (to_le_bytes w32) (span (length_from places.now) 0 rows)) }
 {
-    let first = places.at(0);
+    let mut place = places.at(0);
     for row in 0..rows {
-        ends.push(start + (places.behind(row) - first))?;
+        let next = places.behind(row);
+        push_length(bytes, next - place)?;
+        place = next;
     }
     Ok(())
 }
 
 impl TextColumn {
-    /// Texts between places. Only memory refuses.
-    pub(crate) fn new(
+    /// Texts between places that others may share. Only memory refuses.
+    fn with_places(
         alloc: Global,
         may_be_null: bool,
         present: Option<Bits>,
         held: &ByteBuffer,
-        places: TextPlaces,
+        places: SharedPlaces,
         count: usize,
     ) -> Result<TextColumn, AllocError>
         requires long { length places ≡ count + 1 }
@@ -135,6 +135,28 @@ impl TextColumn {
             held: held.share(alloc)?,
             places,
         })
+    }
+
+    /// Texts between places. Only memory refuses.
+    pub(crate) fn new(
+        alloc: Global,
+        may_be_null: bool,
+        present: Option<Bits>,
+        held: &ByteBuffer,
+        places: TextPlaces,
+        count: usize,
+    ) -> Result<TextColumn, AllocError>
+        requires long { length places ≡ count + 1 }
+        requires present { IfSome present (λ bits. length bits ≡ count) }
+        requires ranges { AreRanges held.now.bytes places count }
+        requires texts { AreTexts held.now.bytes places count }
+        ensures { IfOk result (λ c. c ≡ record {
+          nullable = may_be_null;
+          rows = span (text_row present held.now.bytes places) 0 count;
+        }) }
+    {
+        let places = SharedPlaces::new(alloc, places)?;
+        TextColumn::with_places(alloc, may_be_null, present, held, places, count)
     }
 
     /// Whether a row may be null.
@@ -204,11 +226,14 @@ impl TextColumn {
         }
     }
 
-    /// Adds the length of each text.
+    /// Adds the length of each text. Where no row is null the places alone tell them.
     #[tactic(auto, using(crate::proofs::WrittenLemmas::next_row))]
     fn push_lengths(&self, bytes: &mut Vec<u8>) -> Result<(), AllocError>
         ensures { OnOk result (bytes.new.items ≡ bytes.old.items ++ flat_map length_bytes self.now.rows) }
     {
+        if self.present.is_none() {
+            return push_lengths_between(bytes, &self.places, self.count);
+        }
         for row in 0..self.len() {
             push_length(bytes, self.text_or_empty(row).len())?;
         }
@@ -260,7 +285,7 @@ impl TextColumn {
         let count = places.len();
         let all = all_between(self.held.as_slice(), &self.places, self.count);
         bytes.extend_from_slice(all)?;
-        match push_ends(places, &self.places, self.count, start) {
+        match places.push_ends(&self.places, self.count, start) {
             Ok(()) => Ok(()),
             Err(error) => {
                 bytes.truncate(start);
@@ -270,7 +295,7 @@ impl TextColumn {
         }
     }
 
-    /// The rows from one on, up to another. Only memory refuses.
+    /// The rows from one on, up to another, with the same bytes and places. Only memory refuses.
     #[tactic(auto, using(crate::proofs::CutLemmas::texts_cut, crate::proofs::CutLemmas::texts_cut_long, crate::proofs::CutLemmas::ranges_cut, crate::proofs::CutLemmas::utf8_cut, crate::proofs::CutLemmas::present_long, crate::proofs::SpanLemmas::length_span))]
     pub(crate) fn part(
         &self,
@@ -284,8 +309,8 @@ impl TextColumn {
     {
         let present = part_of(alloc, &self.present, from, to)?;
         prove!(to < self.places.len());
-        let places = self.places.part(alloc, from, to + 1)?;
-        let column = TextColumn::new(
+        let places = self.places.part(from, to + 1)?;
+        let column = TextColumn::with_places(
             alloc,
             self.may_be_null,
             present,
@@ -305,10 +330,15 @@ impl TextColumn {
         self.may_be_null || are_all_present(&self.present)
     }
 
-    /// How many bytes the texts have.
+    /// How many bytes the texts have. Where no row is null they stand one behind the other.
+    #[tactic(auto, using(crate::proofs::BehindLemmas::last_inside))]
     fn bytes_len(&self) -> u64
         ensures { result ≡ min (sum_by (λ row. length (text_bytes row)) self.now.rows) (2 ^ 64 - 1) }
     {
+        if self.present.is_none() && self.count > 0 {
+            let all = all_between(self.held.as_slice(), &self.places, self.count);
+            return all.len() as u64;
+        }
         let mut size: u64 = 0;
         for row in 0..self.len() {
             size = size.saturating_add(self.text_or_empty(row).len() as u64);

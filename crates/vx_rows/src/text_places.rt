@@ -1,6 +1,9 @@
 //! Where texts lie in their bytes.
-ghost use Rattle.std.specs.Prelude.{◌≡◌, ◌+◌, ◌++◌, ◌∷◌, ◌≤◌, ◌<◌, [], length, take, slice_index, slice_range, IfOk, OnOk, OnErr};
+ghost use Rattle.std.specs.Prelude.{◌≡◌, ◌+◌, ◌++◌, ◌∷◌, ◌-◌, ◌≤◌, ◌<◌, ◌^◌, ℕ, [], length, take, slice_index, slice_range, IfOk, OnOk, OnErr};
+ghost use Rattle.vx_rows.specs.Span.{span};
+ghost use Rattle.vx_rows.specs.TextsBehind.{end_from};
 
+use crate::shared_places::SharedPlaces;
 use std::alloc::{AllocError, Global};
 use std::marker::Model;
 
@@ -28,6 +31,17 @@ impl TextPlaces {
             narrow: Vec::with_capacity(alloc, count)?,
             wide: Vec::new(alloc),
         })
+    }
+
+    /// Places that take four bytes each.
+    #[tactic(auto, using(crate::proofs::PlacesLemmas::all_narrow))]
+    pub(crate) fn from_narrow(alloc: Global, narrow: Vec<u32>) -> TextPlaces
+        ensures { result ≡ narrow.items }
+    {
+        TextPlaces {
+            narrow,
+            wide: Vec::new(alloc),
+        }
     }
 
     /// How many places there are.
@@ -79,6 +93,33 @@ impl TextPlaces {
         Ok(())
     }
 
+    /// Adds the place behind each of so many rows, where the first of them comes at a place. Only memory refuses, and then some
+    /// of them may be there.
+    #[tactic(auto, using(crate::proofs::SpanLemmas::span_more, crate::proofs::PlacesLemmas::all_narrow))]
+    pub(crate) fn push_ends(
+        &mut self,
+        places: &SharedPlaces,
+        rows: usize,
+        start: usize,
+    ) -> Result<(), AllocError>
+        requires long { length places.now ≡ rows + 1 }
+        requires least { (row : ℕ) → row ≤ rows → slice_index places.now 0 ≤ slice_index places.now row }
+        requires greatest { (row : ℕ) → row ≤ rows → slice_index places.now row ≤ slice_index places.now rows }
+        requires few { start + (slice_index places.now rows - slice_index places.now 0) < 2 ^ 64 }
+        ensures ok { OnOk result (self.new ≡ self.old ++ span (end_from places.now start) 0 rows) }
+        ensures err { OnErr result (take (length self.old) self.new ≡ self.old) }
+    {
+        let first = places.at(0);
+        let last = start + (places.at(rows) - first);
+        if self.wide.is_empty() && last <= u32::MAX as usize {
+            return push_narrow_ends(&mut self.narrow, places, rows, start);
+        }
+        for row in 0..rows {
+            self.push(start + (places.behind(row) - first))?;
+        }
+        Ok(())
+    }
+
     /// Keeps so many places.
     #[tactic(auto, using(crate::proofs::PlacesLemmas::take_both))]
     pub(crate) fn truncate(&mut self, count: usize)
@@ -123,4 +164,27 @@ fn between<T: Copy>(all: &[T], from: usize, to: usize) -> &[T]
     let end = to.min(all.len());
     let start = from.min(end);
     &all[start..end]
+}
+
+/// Adds the place behind each of so many rows, where the first of them comes at a place and each takes four bytes. Only
+/// memory refuses, and then nothing changes.
+#[tactic(auto, using(crate::proofs::SpanLemmas::span_more))]
+fn push_narrow_ends(
+    narrow: &mut Vec<u32>,
+    places: &SharedPlaces,
+    rows: usize,
+    start: usize,
+) -> Result<(), AllocError>
+    requires long { length places.now ≡ rows + 1 }
+    requires least { (row : ℕ) → row ≤ rows → slice_index places.now 0 ≤ slice_index places.now row }
+    requires few { (row : ℕ) → row ≤ rows → start + (slice_index places.now row - slice_index places.now 0) < 2 ^ 32 }
+    ensures ok { OnOk result (narrow.new.items ≡ narrow.old.items ++ span (end_from places.now start) 0 rows) }
+    ensures err { OnErr result (narrow.new.items ≡ narrow.old.items) }
+{
+    narrow.reserve(rows)?;
+    let first = places.at(0);
+    for row in 0..rows {
+        narrow.push_reserved((start + (places.behind(row) - first)) as u32);
+    }
+    Ok(())
 }

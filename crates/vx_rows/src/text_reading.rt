@@ -16,10 +16,40 @@ use std::alloc::{AllocError, Global};
 use vx_base::ByteBuffer;
 use vx_data::PType;
 
-/// The places of so many texts whose lengths stand at a place, and the one behind the last, which comes once
+/// The places of so many texts whose lengths stand at a place, in four bytes each, and the one behind the last, which comes once
 /// more; none, where the bytes end before.
 #[tactic(auto, using(crate::proofs::TextLemmas::so_far_start, crate::proofs::TextLemmas::so_far_end))]
-fn places_of(
+fn narrow_places_of(
+    alloc: Global,
+    bytes: &[u8],
+    at: usize,
+    rows: usize,
+) -> Result<Option<(Vec<u32>, usize)>, AllocError>
+    requires room { value_place U32 at rows ≤ length bytes.now }
+    requires bound { length bytes.now < 2 ^ 32 }
+    ensures places { IfOk result (λ found. IfSome found (λ x. x.0.items ≡ places_at rows bytes.now at)) }
+    ensures after { IfOk result (λ found. IfSome found (λ x. x.1 ≡ place_at bytes.now at (value_place U32 at rows) rows)) }
+    ensures inside { IfOk result (λ found. IfSome found (λ x. x.1 ≤ length bytes.now)) }
+    ensures ranges { IfOk result (λ found. IfSome found (λ x. AreRanges bytes.now x.0.items rows)) }
+    ensures none { IfOk result (λ found. IfNone found (length bytes.now < place_at bytes.now at (value_place U32 at rows) rows)) }
+{
+    let mut place = place_of(PType::U32, at, rows);
+    let mut places = Vec::with_capacity(alloc, rows + 1)?;
+    places.push_reserved(place as u32);
+    for row in 0..rows {
+        let size = u32_at(bytes, at + 4 * row) as usize;
+        if size > bytes.len() - place {
+            return Ok(None);
+        }
+        place += size;
+        places.push_reserved(place as u32);
+    }
+    Ok(Some((places, place)))
+}
+
+/// The same, where some places may need more than four bytes.
+#[tactic(auto, using(crate::proofs::TextLemmas::so_far_start, crate::proofs::TextLemmas::so_far_end))]
+fn wide_places_of(
     alloc: Global,
     bytes: &[u8],
     at: usize,
@@ -45,6 +75,31 @@ fn places_of(
         places.push(place)?;
     }
     Ok(Some((places, place)))
+}
+
+/// The places of so many texts whose lengths stand at a place, and the one behind the last, which comes once
+/// more; none, where the bytes end before.
+fn places_of(
+    alloc: Global,
+    bytes: &[u8],
+    at: usize,
+    rows: usize,
+) -> Result<Option<(TextPlaces, usize)>, AllocError>
+    requires room { value_place U32 at rows ≤ length bytes.now }
+    requires bound { length bytes.now < 2 ^ 63 }
+    ensures places { IfOk result (λ found. IfSome found (λ x. x.0 ≡ places_at rows bytes.now at)) }
+    ensures after { IfOk result (λ found. IfSome found (λ x. x.1 ≡ place_at bytes.now at (value_place U32 at rows) rows)) }
+    ensures inside { IfOk result (λ found. IfSome found (λ x. x.1 ≤ length bytes.now)) }
+    ensures ranges { IfOk result (λ found. IfSome found (λ x. AreRanges bytes.now x.0 rows)) }
+    ensures none { IfOk result (λ found. IfNone found (length bytes.now < place_at bytes.now at (value_place U32 at rows) rows)) }
+{
+    if bytes.len() > u32::MAX as usize {
+        return wide_places_of(alloc, bytes, at, rows);
+    }
+    match narrow_places_of(alloc, bytes, at, rows)? {
+        Some((places, after)) => Ok(Some((TextPlaces::from_narrow(alloc, places), after))),
+        None => Ok(None),
+    }
 }
 
 /// Whether the bytes between two places are a text.

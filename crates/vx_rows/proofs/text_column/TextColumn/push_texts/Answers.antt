@@ -1,10 +1,8 @@
-use Rattle.std.proofs.Common.{◌≡◌, List, Bool, Option, None, ap, sym, ◌∙◌, arith, rules}
+use Rattle.std.proofs.Common.{◌≡◌, None, ◌∙◌, arith, rules}
 use Rattle.std.specs.Prelude.{slice_index, slice_range}
 use Rattle.std.specs.List.{flat_map}
-use Rattle.vx_rows.specs.Span.{span}
-use Rattle.vx_rows.specs.Columns.{Texts, text_row}
 use Rattle.vx_rows.specs.Written.{text_bytes}
-use Rattle.vx_rows.proofs.BehindLemmas.{places_ascend, texts_at_once}
+use Rattle.vx_rows.proofs.BehindLemmas.{places_ascend, texts_together}
 use Rattle.vx_rows.proofs.text_column.TextColumn.push_texts.Goals as goal
 
 pub all_between-all-requires-clause-ordered : goal.all_between-all-requires-clause-ordered
@@ -13,12 +11,9 @@ all_between-all-requires-clause-ordered c =
 
 pub returns-then-self-gt0 : goal.returns-then-self-gt0
 returns-then-self-gt0 c =
-    let q = c.self.inside.places in
-    let held = c.self.inside.held.bytes in
-    let count = c.self.inside.count in
-    let none : c.self.inside.present ≡ None = search rules in
-    let rows : span (text_row c.self.inside.present held q) 0 count ≡ c.args.self.now.rows = ap (λ (t : Texts). t.rows) c.self.view_is in
-    let a : c.all_between-all.result.now ≡ slice_range held (slice_index q 0) (slice_index q count) = search rules in
+    let s = c.self.inside in
+    let none : s.present ≡ None = search rules in
+    let a : c.all_between-all.result.now ≡ slice_range s.held.bytes (slice_index s.places 0) (slice_index s.places s.count) = search rules in
     let all : c.all_between-all.result.now ≡ flat_map text_bytes c.args.self.now.rows =
-    a ∙ sym (texts_at_once held q count c.self.invariant.2) ∙ ap (λ (p : Option (List Bool)). flat_map text_bytes (span (text_row p held q) 0 count)) (sym none) ∙ ap (flat_map text_bytes) rows in
+    a ∙ texts_together s.may_be_null s.present s.held.bytes s.places s.count c.args.self.now c.self.view_is none c.self.invariant.2 in
     search (all, rules)

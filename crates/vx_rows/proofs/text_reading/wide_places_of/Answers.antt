@@ -2,7 +2,7 @@ use Rattle.std.proofs.Common.{◌≡◌, rules, subst, arith}
 use Rattle.vx_data.specs.declared.ptype.PType.TheVariants.{U32}
 use Rattle.vx_rows.specs.Columns.{raw_at, value_place}
 use Rattle.vx_rows.proofs.TextLemmas.{SoFar, so_far_step, so_far_past, so_far_end}
-use Rattle.vx_rows.proofs.text_reading.places_of.Goals as goal
+use Rattle.vx_rows.proofs.text_reading.wide_places_of.Goals as goal
 
 pub returns-then-size-bytes-clause-none : goal.returns-then-size-bytes-clause-none
 returns-then-size-bytes-clause-none c =

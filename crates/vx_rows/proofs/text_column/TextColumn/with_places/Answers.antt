@@ -1,7 +1,7 @@
 use Rattle.std.proofs.Common.{◌≡◌, sym, subst, rules}
 use Rattle.vx_base.specs.Buffer.{Buffer}
 use Rattle.vx_rows.specs.Columns.{AreRanges, AreTexts}
-use Rattle.vx_rows.proofs.text_column.TextColumn.new.Goals as goal
+use Rattle.vx_rows.proofs.text_column.TextColumn.with_places.Goals as goal
 
 pub invariant_of-result : goal.invariant_of-result
 invariant_of-result c =
