@@ -41,3 +41,7 @@ part_both xs ys a b o =
     let e : b - a - length (drop a xs) ≡ b - length xs - (a - length xs) = omega (arith, size, o) in
     ap (take (b - a)) (drop-both a xs ys) ∙ take_both (b - a) (drop a xs) (drop (a - length xs) ys)
     ∙ ap (λ k. slice_range xs a b ++ take k (drop (a - length xs) ys)) e
+
+-- none is kept in more than four bytes
+pub all_narrow : (xs ys : List ℕ) → ys ≡ [] → xs ≡ xs ++ ys
+all_narrow xs ys e = sym (ap (λ zs. xs ++ zs) e ∙ append-nil xs)
