@@ -1,10 +1,12 @@
 -- The least and the greatest of rows, gathered row by row and column by column.
-use Rattle.std.proofs.Common.{◌≡◌, ℕ, zero, suc, ◌+◌, ◌<◌, ◌≤◌, Bool, true, false, cond, List, [], ◌∷◌, ◌++◌, length, map, drop, Option, Some, None, is_some, refl, ap, sym, ◌∙◌, arith}
+use Rattle.std.proofs.Common.{◌≡◌, ℕ, zero, suc, ◌+◌, ◌<◌, ◌≤◌, Bool, true, false, cond, List, [], ◌∷◌, ◌++◌, length, map, drop, Option, Some, None, is_some, refl, ap, sym, subst, ◌∙◌, arith}
 use Rattle.std.specs.Prelude.{slice_index_or, not}
 use Rattle.std.specs.Option.{option_map}
 use Rattle.std.specs.List.{list_all}
 use Rattle.vx_data.specs.declared.ptype.PType.{PType}
-use Rattle.vx_rows.specs.Columns.{Ints, int_row}
+use Rattle.vx_rows.specs.Columns.{Ints, Texts, int_row, text_row, AreRanges, AreTexts}
+use Rattle.vx_rows.specs.PlainTexts.{ArePlainTexts}
+use Rattle.vx_rows.proofs.SpanLemmas.{length_span}
 use Rattle.vx_rows.specs.Span.{span}
 use Rattle.std.specs.declared.cmp.Ordering.{Ordering}
 use Rattle.std.specs.declared.cmp.Ordering.TheVariants.{Less, Equal, Greater}
@@ -303,3 +305,23 @@ pub plain_summary : (p : PType) (b : List ℕ) (at : ℕ) (c : Ints) (present : 
     → c.rows ≡ span (int_row c.ptype None b at) 0 (length c.rows) → s ≡ summary_by number int_cmp (span (int_row p None b at) 0 (length c.rows)) → s ≡ summary present (ints c)
 plain_summary p b at c present s typed long all rows tells =
     tells ∙ ap (summary_by number int_cmp) (ap (λ q. span (int_row q None b at) 0 (length c.rows)) (sym typed) ∙ sym rows ∙ sym (masked_all present c.rows all long))
+
+-- ---- texts of which none is null
+
+pub plain_texts_of : (present : Option (List Bool)) (held bytes places narrow : List ℕ) (count : ℕ) (nullable : Bool) (v : Texts) → present ≡ None → bytes ≡ held → narrow ≡ places
+    → length places ≡ count + 1 → AreRanges held places count → AreTexts held places count → record { nullable = nullable; rows = span (text_row present held places) 0 count } ≡ v
+    → ArePlainTexts v.rows bytes narrow
+plain_texts_of present held bytes places narrow count nullable v none shared same long ordered valid is =
+    let size = length_span (text_row None held places) 0 count in
+    let plain : ArePlainTexts (span (text_row None held places) 0 count) held places = record {
+      long = long ∙ ap (λ n. n + 1) (sym size);
+      ranges = subst (λ n. AreRanges held places n) (sym size) ordered;
+      texts = subst (λ n. AreTexts held places n) (sym size) valid;
+      values = ap (λ n. span (text_row None held places) 0 n) (sym size);
+    } in
+    subst (λ bs. ArePlainTexts v.rows bs narrow) (sym shared) (subst (λ ps. ArePlainTexts v.rows held ps) (sym same) (subst (λ rows. ArePlainTexts rows held places) (ap (λ (t : Texts). t.rows) is)
+    (subst (λ p. ArePlainTexts (span (text_row p held places) 0 count) held places) (sym none) plain)))
+
+pub plain_texts_summary : (b places : List ℕ) (c : Texts) (present : List Bool) (s : Summary) → length present ≡ length c.rows → list_all (λ b. b) present ≡ true
+    → ArePlainTexts c.rows b places → s ≡ summary_by words text_cmp (span (text_row None b places) 0 (length c.rows)) → s ≡ summary present (texts c)
+plain_texts_summary b places c present s long all plain tells = tells ∙ ap (summary_by words text_cmp) (sym plain.values ∙ sym (masked_all present c.rows all long))

@@ -1,7 +1,8 @@
 pub mod SpanLemmas
 pub mod IntLemmas
 pub mod TextLemmas
-pub mod TextOrderLemmas
+pub mod FirstLemmas
+pub mod KeyLemmas
 pub mod AsciiLemmas
 pub mod TreeLemmas
 pub mod TypedLemmas

@@ -28,3 +28,6 @@ pub mod Operands
 pub mod Fields
 pub mod LayoutReaders
 pub mod TextsBehind
+pub mod FirstBytes
+pub mod PlainTexts
+pub mod Keys

@@ -1,22 +1,22 @@
 //! The least and the greatest value of the rows of a column, and how many of them are null.
-ghost use Rattle.std.specs.Prelude.{◌≡◌, ◌<◌, ◌≤◌, length, slice_index_or, not, is_some, if◌then◌else◌, Some, None, IfOk, map};
+ghost use Rattle.std.specs.Prelude.{◌≡◌, ◌+◌, ◌<◌, ◌≤◌, length, slice_index_or, not, is_some, if◌then◌else◌, Some, None, IfOk, map};
 ghost use Rattle.std.specs.Option.{option_map};
-ghost use Rattle.std.specs.Ordering.{bool_cmp, int_cmp, is_lt};
+ghost use Rattle.std.specs.Ordering.{bool_cmp, int_cmp, flip_args};
 ghost use Rattle.vx_data.specs.Scalar.{scalar_view, flag, number, words};
+ghost use Rattle.vx_rows.specs.Keys.{of_key};
 ghost use Rattle.vx_rows.specs.Rows.{bools, ints, texts, structs, rows_len, column_view, columns_view};
 ghost use Rattle.vx_rows.specs.Span.{span};
-ghost use Rattle.vx_rows.specs.Columns.{value_place, int_row};
-ghost use Rattle.vx_rows.specs.RowStats.{lesser_of, greater_of, masked, there, text_cmp, value_cmp, summary, summary_by};
+ghost use Rattle.vx_rows.specs.Columns.{value_place, int_row, text_row, AreRanges, AreTexts};
+ghost use Rattle.vx_rows.specs.RowStats.{lesser as lesser_one, lesser_of, greater_of, masked, there, text_cmp, value_cmp, summary, summary_by};
 
-use crate::int_column::plain_row;
+use crate::int_column::{plain_key, value_of_key};
+use crate::text_column::plain_text;
+use crate::text_ends::{TextEnds, greatest_text, least_text, with_text};
 use crate::{BoolColumn, Column, Columns, IntColumn, Mask, StructRows, TextColumn};
 use std::alloc::{AllocError, Global};
 use std::cmp::Ordering;
 use std::marker::Model;
 use vx_data::{PType, Scalar};
-
-/// How many bytes of two texts are compared one by one.
-const FIRST_BYTES: usize = 4;
 
 /// The least and the greatest value of rows, and how many rows are null.
 #[derive(Drop)]
@@ -58,81 +58,42 @@ fn greater_flag(a: Option<bool>, b: Option<bool>) -> Option<bool>
     if second && !first { b } else { a }
 }
 
-/// The least and the greatest of some integers.
+/// The least and the greatest of some integers, as keys.
 #[derive(Clone, Copy)]
 struct Ends {
-    least: i128,
-    greatest: i128,
+    least: i64,
+    greatest: i64,
 }
 
-/// The ends of integers and one more. The first of them is both.
+/// The ends of integers and one more.
 #[inline(always)]
-fn widened(ends: Option<Ends>, value: i128) -> Ends
-    ensures least { Some result.least ≡ lesser_of int_cmp (option_map (λ e. e.least) ends) (Some value) }
-    ensures greatest { Some result.greatest ≡ greater_of int_cmp (option_map (λ e. e.greatest) ends) (Some value) }
+fn widened(ends: Ends, key: i64) -> Ends
+    ensures least { result.least ≡ lesser_one int_cmp ends.least key }
+    ensures greatest { result.greatest ≡ lesser_one (flip_args int_cmp) ends.greatest key }
 {
-    let Some(Ends { least, greatest }) = ends else {
-        return Ends {
-            least: value,
-            greatest: value,
-        };
-    };
+    let Ends { least, greatest } = ends;
     Ends {
-        least: if value < least { value } else { least },
-        greatest: if value > greatest { value } else { greatest },
+        least: if key < least { key } else { least },
+        greatest: if key > greatest { key } else { greatest },
     }
 }
 
-/// The ends of integers and of a row, which may have none.
+/// The ends of integers and of a row, which may have none. The first of them is both.
 #[inline(always)]
-fn with_row(ends: Option<Ends>, row: Option<i128>) -> Option<Ends>
+fn with_row(ends: Option<Ends>, row: Option<i64>) -> Option<Ends>
     ensures least { option_map (λ e. e.least) result ≡ lesser_of int_cmp (option_map (λ e. e.least) ends) row }
     ensures greatest { option_map (λ e. e.greatest) result ≡ greater_of int_cmp (option_map (λ e. e.greatest) ends) row }
 {
-    match row {
-        None => ends,
-        Some(value) => Some(widened(ends, value)),
-    }
-}
-
-/// Whether a text comes before another. Mostly one of the first bytes tells, which takes no call.
-#[inline(always)]
-fn is_before(a: &str, b: &str) -> bool
-    ensures { result ≡ is_lt (text_cmp a.now b.now) }
-{
-    let (first, second) = (a.as_bytes(), b.as_bytes());
-    for i in 0..FIRST_BYTES {
-        if i >= second.len() {
-            return false;
-        }
-        if i >= first.len() {
-            return true;
-        }
-        if first[i] != second[i] {
-            return first[i] < second[i];
-        }
-    }
-    a.cmp(b).is_lt()
-}
-
-#[inline(always)]
-fn lesser_text<'a>(a: Option<&'a str>, b: Option<&'a str>) -> Option<&'a str>
-    ensures { option_map (λ v. v.now) result ≡ lesser_of text_cmp (option_map (λ v. v.now) a.entry) (option_map (λ v. v.now) b.entry) }
-{
-    let (Some(first), Some(second)) = (a, b) else {
-        return a.or(b);
+    let Some(key) = row else {
+        return ends;
     };
-    if is_before(second, first) { b } else { a }
-}
-
-#[inline(always)]
-fn greater_text<'a>(a: Option<&'a str>, b: Option<&'a str>) -> Option<&'a str>
-    ensures { option_map (λ v. v.now) result ≡ greater_of text_cmp (option_map (λ v. v.now) a.entry) (option_map (λ v. v.now) b.entry) }
-{
-    let (Some(first), Some(second)) = (a, b) else {
-        return a.or(b);
+    let Some(ends) = ends else {
+        return Some(Ends {
+            least: key,
+            greatest: key,
+        });
     };
-    if is_before(first, second) { b } else { a }
+    Some(widened(ends, key))
 }
 
 /// How two values of one kind compare; values of different kinds compare as equal.
@@ -209,22 +170,37 @@ fn as_flag(value: Option<bool>) -> Option<Scalar>
     }
 }
 
-fn least_number(ends: Option<Ends>) -> Option<Scalar>
-    ensures { option_map scalar_view result ≡ option_map number (option_map (λ e. e.least) ends) }
+/// What the ends of integers of a type tell, where so many rows are null.
+fn told_by_keys(ptype: PType, ends: Ends, nulls: u64) -> Extent
+    ensures { result ≡ record {
+      min = Some (number (of_key ptype ends.least));
+      max = Some (number (of_key ptype ends.greatest));
+      nulls = nulls;
+    } }
 {
-    match ends {
-        Some(ends) => Some(Scalar::Int(ends.least)),
-        None => None,
+    Extent {
+        min: Some(Scalar::Int(value_of_key(ptype, ends.least))),
+        max: Some(Scalar::Int(value_of_key(ptype, ends.greatest))),
+        nulls,
     }
 }
 
-fn greatest_number(ends: Option<Ends>) -> Option<Scalar>
-    ensures { option_map scalar_view result ≡ option_map number (option_map (λ e. e.greatest) ends) }
+/// The same where there may be no integer.
+fn told_by_numbers(ptype: PType, ends: Option<Ends>, nulls: u64) -> Extent
+    ensures { result ≡ record {
+      min = option_map number (option_map (of_key ptype) (option_map (λ e. e.least) ends));
+      max = option_map number (option_map (of_key ptype) (option_map (λ e. e.greatest) ends));
+      nulls = nulls;
+    } }
 {
-    match ends {
-        Some(ends) => Some(Scalar::Int(ends.greatest)),
-        None => None,
-    }
+    let Some(ends) = ends else {
+        return Extent {
+            min: None,
+            max: None,
+            nulls,
+        };
+    };
+    told_by_keys(ptype, ends, nulls)
 }
 
 #[inline(always)]
@@ -243,14 +219,14 @@ fn flag_at(column: &BoolColumn, present: &Mask, row: usize) -> Option<bool>
 
 #[inline(always)]
 #[tactic(auto, using(crate::proofs::ExtentLemmas::masked_at))]
-fn number_at(ptype: PType, column: &IntColumn, present: &Mask, row: usize) -> Option<i128>
+fn key_of_row(ptype: PType, column: &IntColumn, present: &Mask, row: usize) -> Option<i64>
     requires typed { column.now.ptype ≡ ptype }
     requires long { length present.now ≡ length column.now.rows }
     requires inside { row < length column.now.rows }
-    ensures { result ≡ slice_index_or (masked present.now column.now.rows) row None }
+    ensures { option_map (of_key ptype) result ≡ slice_index_or (masked present.now column.now.rows) row None }
 {
     if present.get(row) {
-        column.get_of(ptype, row)
+        column.key_of(ptype, row)
     } else {
         None
     }
@@ -309,15 +285,18 @@ fn extent_of_plain(ptype: PType, bytes: &[u8], at: usize, count: usize) -> Exten
     requires { value_place ptype at count ≤ length bytes.now }
     ensures { result ≡ summary_by number int_cmp (span (int_row ptype None bytes.now at) 0 count) }
 {
-    let mut ends = None;
-    for row in 0..count {
-        ends = with_row(ends, plain_row(ptype, bytes, at, count, row));
+    if count == 0 {
+        return told_by_numbers(ptype, None, 0);
     }
-    Extent {
-        min: least_number(ends),
-        max: greatest_number(ends),
-        nulls: 0,
+    let first = plain_key(ptype, bytes, at, count, 0);
+    let mut ends = Ends {
+        least: first,
+        greatest: first,
+    };
+    for row in 1..count {
+        ends = widened(ends, plain_key(ptype, bytes, at, count, row));
     }
+    told_by_keys(ptype, ends, 0)
 }
 
 /// Integers of a type, of which some may be null or not present.
@@ -330,15 +309,11 @@ fn extent_of_nullable(ptype: PType, column: &IntColumn, present: &Mask) -> Exten
     let mut ends = None;
     let mut nulls = 0;
     for row in 0..column.len() {
-        let value = number_at(ptype, column, present, row);
-        ends = with_row(ends, value);
-        nulls += null_of(value);
+        let key = key_of_row(ptype, column, present, row);
+        ends = with_row(ends, key);
+        nulls += null_of(key);
     }
-    Extent {
-        min: least_number(ends),
-        max: greatest_number(ends),
-        nulls,
-    }
+    told_by_numbers(ptype, ends, nulls)
 }
 
 /// Integers of a type. Each call is compiled for its type.
@@ -384,25 +359,75 @@ fn owned(alloc: Global, text: Option<&str>) -> Result<Option<Scalar>, AllocError
     }
 }
 
-/// Texts.
-fn extent_of_texts(alloc: Global, column: &TextColumn, present: &Mask) -> Result<Extent, AllocError>
+/// What the ends of texts tell, where so many rows are null.
+fn told_by(alloc: Global, ends: Option<TextEnds>, nulls: u64) -> Result<Extent, AllocError>
+    ensures { IfOk result (λ extent. extent ≡ record {
+      min = option_map words (option_map (λ e. e.least.text.now) ends.entry);
+      max = option_map words (option_map (λ e. e.greatest.text.now) ends.entry);
+      nulls = nulls;
+    }) }
+{
+    Ok(Extent {
+        min: owned(alloc, least_text(ends))?,
+        max: owned(alloc, greatest_text(ends))?,
+        nulls,
+    })
+}
+
+/// Texts, of which none is null.
+fn extent_of_plain_texts(
+    alloc: Global,
+    bytes: &[u8],
+    places: &[u32],
+    count: usize,
+) -> Result<Extent, AllocError>
+    requires long { length places.now ≡ count + 1 }
+    requires ranges { AreRanges bytes.now places.now count }
+    requires texts { AreTexts bytes.now places.now count }
+    ensures { IfOk result (λ extent. extent ≡ summary_by words text_cmp (span (text_row None bytes.now places.now) 0 count)) }
+{
+    let mut ends = None;
+    for row in 0..count {
+        ends = with_text(ends, plain_text(bytes, places, count, row));
+    }
+    Ok(told_by(alloc, ends, 0)?)
+}
+
+/// Texts, of which some may be null or not present.
+fn extent_of_nullable_texts(
+    alloc: Global,
+    column: &TextColumn,
+    present: &Mask,
+) -> Result<Extent, AllocError>
     requires { length present.now ≡ length column.now.rows }
     ensures { IfOk result (λ extent. extent ≡ summary present.now (texts column.now)) }
 {
-    let mut min = None;
-    let mut max = None;
+    let mut ends = None;
     let mut nulls = 0;
     for row in 0..column.len() {
         let value = text_at(column, present, row);
-        min = lesser_text(min, value);
-        max = greater_text(max, value);
+        ends = with_text(ends, value);
         nulls += null_of(value);
     }
-    Ok(Extent {
-        min: owned(alloc, min)?,
-        max: owned(alloc, max)?,
-        nulls,
-    })
+    Ok(told_by(alloc, ends, nulls)?)
+}
+
+/// Texts.
+fn extent_of_texts(
+    alloc: Global,
+    column: &TextColumn,
+    present: &Mask,
+) -> Result<Extent, AllocError>
+    requires { length present.now ≡ length column.now.rows }
+    ensures { IfOk result (λ extent. extent ≡ summary present.now (texts column.now)) }
+{
+    if !present.are_all() {
+        return extent_of_nullable_texts(alloc, column, present);
+    }
+    let Some((bytes, places)) = column.plain_texts() else {
+        return extent_of_nullable_texts(alloc, column, present);
+    };
+    Ok(extent_of_plain_texts(alloc, bytes, places, column.len())?)
 }
 
 /// Structs, of which none is less than another.

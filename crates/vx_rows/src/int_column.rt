@@ -1,11 +1,12 @@
 //! Columns of integers.
-ghost use Rattle.std.specs.Prelude.{◌≡◌, ◌++◌, ◌+◌, ◌-◌, ◌*◌, ◌<◌, ◌≤◌, ◌==◌, ◌^◌, OnOk, OnErr, length, map, min, slice_range};
+ghost use Rattle.std.specs.Prelude.{◌≡◌, ◌++◌, ◌+◌, ◌-◌, ◌*◌, ◌<◌, ◌≤◌, ◌==◌, ◌^◌, OnOk, OnErr, length, map, min, slice_range, option_map};
 ghost use Rattle.std.specs.Prelude.{slice_index_or, is_some, IsSome, IfOk, IfSome, Some, None, true, take, drop, pos};
 ghost use Rattle.std.specs.Int.{w8, w16, w32, w64, from_le_bytes, cast_signed};
 ghost use Rattle.std.specs.List.{flat_map};
 ghost use Rattle.vx_rows.specs.Span.{span, every};
 ghost use Rattle.vx_rows.specs.Bits.{present_at};
 ghost use Rattle.vx_rows.specs.Columns.{value_size, value_place, raw_at, value_of, int_row, is_clear, may_hold};
+ghost use Rattle.vx_rows.specs.Keys.{of_key};
 ghost use Rattle.vx_rows.specs.Rows.{ints, AreWithin};
 ghost use Rattle.vx_rows.specs.Parts.{plain_size};
 ghost use Rattle.vx_rows.specs.Written.{cell, ints_bytes};
@@ -18,6 +19,9 @@ use std::alloc::{AllocError, Global};
 use std::marker::Model;
 use vx_base::ByteBuffer;
 use vx_data::PType;
+
+/// Half of the range of U64.
+const HALF: i128 = 1 << 63;
 
 /// Integers of a type, some of which may be null. Their bytes are shared.
 #[derive(Drop)]
@@ -166,6 +170,45 @@ pub fn value_at(ptype: PType, bytes: &[u8], at: usize) -> i128
         PType::I32 => i128::from(i32_at(bytes, at)),
         PType::I64 => i128::from(i64_at(bytes, at)),
     }
+}
+
+/// The key of the value that begins at a byte.
+#[inline(always)]
+pub fn key_at(ptype: PType, bytes: &[u8], at: usize) -> i64
+    requires { at + value_size ptype ≤ length bytes.now }
+    ensures { of_key ptype result ≡ value_of ptype (raw_at ptype bytes.now at) }
+{
+    match ptype {
+        PType::U8 => i64::from(u8_at(bytes, at)),
+        PType::U16 => i64::from(u16_at(bytes, at)),
+        PType::U32 => i64::from(u32_at(bytes, at)),
+        PType::U64 => (i128::from(u64_at(bytes, at)) - HALF) as i64,
+        PType::I8 => i64::from(i8_at(bytes, at)),
+        PType::I16 => i64::from(i16_at(bytes, at)),
+        PType::I32 => i64::from(i32_at(bytes, at)),
+        PType::I64 => i64_at(bytes, at),
+    }
+}
+
+/// The value that a key stands for.
+pub fn value_of_key(ptype: PType, key: i64) -> i128
+    ensures { result ≡ of_key ptype key }
+{
+    match ptype {
+        PType::U64 => i128::from(key) + HALF,
+        _ => i128::from(key),
+    }
+}
+
+/// The key of one of so many rows, of which none is null, where the values begin at a byte.
+#[inline(always)]
+#[tactic(auto, using(crate::proofs::IntLemmas::place_inside, crate::proofs::IntLemmas::place_bound))]
+pub fn plain_key(ptype: PType, bytes: &[u8], at: usize, rows: usize, row: usize) -> i64
+    requires inside { value_place ptype at rows ≤ length bytes.now }
+    requires less { row < rows }
+    ensures { Some (of_key ptype result) ≡ int_row ptype None bytes.now at row }
+{
+    key_at(ptype, bytes, place_of(ptype, at, row))
 }
 
 /// One of so many rows, of which none is null, where the values begin at a byte.
@@ -325,6 +368,36 @@ impl IntColumn {
             return None;
         }
         Some(self.int_of(ptype, row))
+    }
+
+    /// The key of a row that has a value, of integers of a type. A call with a constant is compiled for that type.
+    #[inline(always)]
+    #[tactic(auto, using(crate::proofs::SpanLemmas::length_span, crate::proofs::SpanLemmas::get_or_span, crate::proofs::IntLemmas::place_inside))]
+    fn key_here(&self, ptype: PType, row: usize) -> i64
+        requires typed { self.now.ptype ≡ ptype }
+        requires inside { row < length self.now.rows }
+        requires here { is_some (slice_index_or self.now.rows row None) ≡ true }
+        ensures { slice_index_or self.now.rows row None ≡ Some (of_key ptype result) }
+    {
+        let bytes = self.held.as_slice();
+        let place = place_of(ptype, self.at, row);
+        key_at(ptype, bytes, place)
+    }
+
+    /// The key of a row of integers of a type, if there is such a row and it has a value.
+    #[inline(always)]
+    #[tactic(auto, using(crate::proofs::WrittenLemmas::row_values))]
+    pub(crate) fn key_of(&self, ptype: PType, row: usize) -> Option<i64>
+        requires { self.now.ptype ≡ ptype }
+        ensures { option_map (of_key ptype) result ≡ slice_index_or self.now.rows row None }
+    {
+        if row >= self.len() {
+            return None;
+        }
+        if !self.is_present(row) {
+            return None;
+        }
+        Some(self.key_here(ptype, row))
     }
 
     /// The value of a row that has one.

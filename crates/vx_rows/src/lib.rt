@@ -48,6 +48,7 @@ mod sharing;
 mod struct_rows;
 mod text_builder;
 mod text_column;
+mod text_ends;
 mod text_places;
 mod text_reading;
 mod typing;

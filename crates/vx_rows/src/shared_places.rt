@@ -1,5 +1,5 @@
 //! Where texts lie in their bytes, shared by the parts of a column.
-ghost use Rattle.std.specs.Prelude.{◌≡◌, ◌+◌, ◌≤◌, ◌<◌, length, slice_index, slice_range, IfOk};
+ghost use Rattle.std.specs.Prelude.{◌≡◌, ◌+◌, ◌≤◌, ◌<◌, length, slice_index, slice_range, IfOk, IfSome};
 ghost use Rattle.std.specs.Arc.{arc_value};
 
 use crate::text_places::TextPlaces;
@@ -67,6 +67,14 @@ impl SharedPlaces {
     {
         prove!(position < self.len());
         self.at(position + 1)
+    }
+
+    /// The places, where each is kept in four bytes.
+    pub(crate) fn as_narrow(&self) -> Option<&[u32]>
+        ensures { IfSome result (λ places. places.now ≡ self.now) }
+    {
+        let all = self.all.as_narrow()?;
+        Some(&all[self.from..self.to])
     }
 
     /// The places from a position on, up to another. None is copied, and only memory refuses.

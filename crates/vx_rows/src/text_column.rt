@@ -4,6 +4,7 @@ ghost use Rattle.std.specs.Prelude.{slice_index_or, slice_range, is_some, IfOk, 
 ghost use Rattle.std.specs.Str.{IsUtf8};
 ghost use Rattle.vx_rows.specs.Span.{span};
 ghost use Rattle.vx_rows.specs.Columns.{text_row, AreRanges, AreTexts, may_hold};
+ghost use Rattle.vx_rows.specs.PlainTexts.{ArePlainTexts};
 ghost use Rattle.vx_rows.specs.Rows.{texts, AreUtf8};
 ghost use Rattle.vx_rows.specs.Parts.{plain_size};
 ghost use Rattle.vx_rows.specs.Written.{text_bytes, length_bytes, texts_bytes};
@@ -66,6 +67,25 @@ fn text_between<'a>(bytes: &'a [u8], places: &SharedPlaces, rows: usize, row: us
     let from = places.at(row);
     let to = places.behind(row);
     text_of(&bytes[from..to])
+}
+
+/// One of so many texts, of which none is null, between a place and the next.
+#[inline(always)]
+pub fn plain_text<'a>(
+    bytes: &'a [u8],
+    places: &[u32],
+    rows: usize,
+    row: usize,
+) -> Option<&'a str>
+    requires long { length places.now ≡ rows + 1 }
+    requires less { row < rows }
+    requires ranges { AreRanges bytes.now places.now rows }
+    requires texts { AreTexts bytes.now places.now rows }
+    ensures { option_map (λ v. v.now) result ≡ text_row None bytes.now places.now row }
+{
+    let from = places[row] as usize;
+    let to = places[row + 1] as usize;
+    Some(text_of(&bytes[from..to]))
 }
 
 /// The bytes between the place of the first row and the one behind the last.
@@ -211,6 +231,20 @@ impl TextColumn {
             return None;
         }
         Some(self.text_at(row))
+    }
+
+    /// The bytes of the texts, and the places between them. None where a bitmap tells which rows are null, or where a place
+    /// needs more than four bytes.
+    pub(crate) fn plain_texts(&self) -> Option<(&[u8], &[u32])>
+        ensures { IfSome result (λ plain. ArePlainTexts self.now.rows plain.0.now plain.1.now) }
+    {
+        if self.present.is_some() {
+            return None;
+        }
+        let Some(places) = self.places.as_narrow() else {
+            return None;
+        };
+        Some((self.held.as_slice(), places))
     }
 
     /// The value of a row, or the empty text where it has none.

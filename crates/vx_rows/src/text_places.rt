@@ -1,5 +1,5 @@
 //! Where texts lie in their bytes.
-ghost use Rattle.std.specs.Prelude.{◌≡◌, ◌+◌, ◌++◌, ◌∷◌, ◌-◌, ◌≤◌, ◌<◌, ◌^◌, ℕ, [], length, take, slice_index, slice_range, IfOk, OnOk, OnErr};
+ghost use Rattle.std.specs.Prelude.{◌≡◌, ◌+◌, ◌++◌, ◌∷◌, ◌-◌, ◌≤◌, ◌<◌, ◌^◌, ℕ, [], length, take, slice_index, slice_range, IfOk, IfSome, OnOk, OnErr};
 ghost use Rattle.vx_rows.specs.Span.{span};
 ghost use Rattle.vx_rows.specs.TextsBehind.{end_from};
 
@@ -76,6 +76,18 @@ impl TextPlaces {
     {
         prove!(position < self.len());
         self.at(position + 1)
+    }
+
+    /// The places, where each is kept in four bytes.
+    #[tactic(auto, using(crate::proofs::PlacesLemmas::all_narrow))]
+    pub(crate) fn as_narrow(&self) -> Option<&[u32]>
+        ensures { IfSome result (λ places. places.now ≡ self.now) }
+    {
+        if self.wide.is_empty() {
+            Some(&self.narrow)
+        } else {
+            None
+        }
     }
 
     /// Adds a place. Where memory refuses, nothing changes.

@@ -1,20 +1,14 @@
-use Rattle.std.proofs.Common.{◌<◌, ◌≤◌, length, rules, arith}
-use Rattle.std.specs.Cmp.Lexicographic.{nat_list_cmp_total}
-use Rattle.vx_rows.specs.RowStats.{masked, text_cmp}
+use Rattle.std.proofs.Common.{◌≡◌, true, length, None, rules}
+use Rattle.std.specs.List.{list_all}
 use Rattle.vx_data.specs.Scalar.{words}
-use Rattle.vx_rows.proofs.ExtentLemmas.{gathered_step, gathered_summary, masked_long}
+use Rattle.vx_rows.specs.Span.{span}
+use Rattle.vx_rows.specs.Columns.{text_row}
+use Rattle.vx_rows.specs.RowStats.{summary_by, text_cmp}
+use Rattle.vx_rows.proofs.ExtentLemmas.{plain_texts_summary}
 use Rattle.vx_rows.proofs.extents.extent_of_texts.Goals as goal
-
-pub loop-row-preserved : goal.loop-row-preserved
-loop-row-preserved c =
-    let long = masked_long c.args.present.now c.args.column.now.rows c.requires in
-    let less : c.loop-row.row < length c.args.column.now.rows = search rules in
-    gathered_step text_cmp nat_list_cmp_total (masked c.args.present.now c.args.column.now.rows) c.loop-row.row _ _ c.loop-row.nulls c.loop-row.invariant
-    _ _ _ c.null_of.result (omega (arith, less, long)) c.text_at-value.ensures c.lesser_text-min.ensures c.greater_text-max.ensures (search rules)
 
 pub returns : goal.returns
 returns c =
-    let long = masked_long c.args.present.now c.args.column.now.rows c.requires in
-    let past : length c.args.column.now.rows ≤ c.loop-row.row = search rules in
-    gathered_summary text_cmp nat_list_cmp_total (masked c.args.present.now c.args.column.now.rows) c.loop-row.row _ _ c.loop-row.nulls c.loop-row.invariant
-    words _ _ (omega (arith, past, long)) c.in_ok-owned.ensures c.in_ok-owned-2.ensures
+    let all : list_all (λ b. b) c.args.present.now ≡ true = search rules in
+    let tells : c.in_ok-extent_of_plain_texts.field-0 ≡ summary_by words text_cmp (span (text_row None c.in-Some.bytes.now c.in-Some.places.now) 0 (length c.args.column.now.rows)) = search rules in
+    plain_texts_summary c.in-Some.bytes.now c.in-Some.places.now c.args.column.now c.args.present.now _ c.requires all c.in-Some.ensures tells
