@@ -315,14 +315,6 @@ texts_sum nullable present held q count c e none r = ap length (texts_together n
 
 -- ---- lengths by places
 
-pub lengths_more : (front : List ℕ) (f : ℕ → ℕ) (k : ℕ) → (front ++ flat_map (to_le_bytes w32) (span f 0 k)) ++ to_le_bytes w32 (f k) ≡ front ++ flat_map (to_le_bytes w32) (span f 0 (k + 1))
-lengths_more front f k =
-    let z : k ≡ 0 + k = omega arith in
-    append_assoc front (flat_map (to_le_bytes w32) (span f 0 k)) (to_le_bytes w32 (f k))
-    ∙ ap (λ xs. front ++ xs)
-    (ap (λ xs. flat_map (to_le_bytes w32) (span f 0 k) ++ xs) (sym (append-nil (to_le_bytes w32 (f k))) ∙ ap (λ i. to_le_bytes w32 (f i) ++ []) z)
-    ∙ sym (flat_map-append (to_le_bytes w32) (span f 0 k) (f (0 + k) ∷ [])) ∙ ap (flat_map (to_le_bytes w32)) (sym (span_push f 0 k)))
-
 lengths_at_once : (held q : List ℕ) (count : ℕ) → AreRanges held q count → flat_map (to_le_bytes w32) (span (length_from q) 0 count) ≡ flat_map length_bytes (span (text_row None held q) 0 count)
 lengths_at_once held q count r = run 0 count (omega arith)
   where

@@ -46,3 +46,4 @@ pub mod FieldRowLemmas
 pub mod EvaluatedLemmas
 pub mod BehindLemmas
 pub mod PlacesLemmas
+pub mod FillingLemmas

@@ -413,11 +413,7 @@ fn extent_of_nullable_texts(
 }
 
 /// Texts.
-fn extent_of_texts(
-    alloc: Global,
-    column: &TextColumn,
-    present: &Mask,
-) -> Result<Extent, AllocError>
+fn extent_of_texts(alloc: Global, column: &TextColumn, present: &Mask) -> Result<Extent, AllocError>
     requires { length present.now ≡ length column.now.rows }
     ensures { IfOk result (λ extent. extent ≡ summary present.now (texts column.now)) }
 {

@@ -1,5 +1,5 @@
 //! Columns of texts.
-ghost use Rattle.std.specs.Prelude.{ℕ, take, ◌≡◌, ◌++◌, ◌+◌, ◌-◌, ◌%◌, ◌<◌, ◌≤◌, ◌^◌, length, map, min, sum_by, slice_index};
+ghost use Rattle.std.specs.Prelude.{ℕ, take, ◌≡◌, ◌++◌, ◌+◌, ◌-◌, ◌*◌, ◌%◌, ◌<◌, ◌≤◌, ◌^◌, length, map, min, sum_by, slice_index};
 ghost use Rattle.std.specs.Prelude.{slice_index_or, slice_range, is_some, IfOk, IfSome, Some, None, true, option_map, OnOk, OnErr};
 ghost use Rattle.std.specs.Str.{IsUtf8};
 ghost use Rattle.vx_rows.specs.Span.{span};
@@ -46,6 +46,9 @@ impl Model for TextColumn {
         × AreRanges c.held.bytes c.places c.count × AreTexts c.held.bytes c.places c.count };
 }
 
+/// How many lengths are put at once.
+const LENGTHS: usize = 512;
+
 /// Bytes that are a text, as one.
 #[inline(always)]
 pub fn text_of(bytes: &[u8]) -> &str
@@ -71,12 +74,7 @@ fn text_between<'a>(bytes: &'a [u8], places: &SharedPlaces, rows: usize, row: us
 
 /// One of so many texts, of which none is null, between a place and the next.
 #[inline(always)]
-pub fn plain_text<'a>(
-    bytes: &'a [u8],
-    places: &[u32],
-    rows: usize,
-    row: usize,
-) -> Option<&'a str>
+pub fn plain_text<'a>(bytes: &'a [u8], places: &[u32], rows: usize, row: usize) -> Option<&'a str>
     requires long { length places.now ≡ rows + 1 }
     requires less { row < rows }
     requires ranges { AreRanges bytes.now places.now rows }
@@ -109,8 +107,52 @@ fn push_length(bytes: &mut Vec<u8>, length: usize) -> Result<(), AllocError>
     bytes.extend_from_slice(&low.to_le_bytes())
 }
 
+/// The bytes of the low 32 bits of a length.
+#[inline(always)]
+fn length_between(places: &SharedPlaces, row: usize) -> [u8; 4]
+    requires inside { row + 1 < length places.now }
+    requires ordered { slice_index places.now row ≤ slice_index places.now (row + 1) }
+    ensures { result ≡ to_le_bytes w32 (length_from places.now row) }
+{
+    let length = places.behind(row) - places.at(row);
+    ((length % (1 << 32)) as u32).to_le_bytes()
+}
+
+/// Fills room with the lengths of rows from one on.
+#[inline(always)]
+fn fill_lengths(room: &mut [u8], places: &SharedPlaces, first: usize, count: usize)
+    requires room { 4 * count ≤ length room.old }
+    requires inside { first + count < length places.now }
+    requires fits { first + count < 2 ^ 64 }
+    requires ordered { (row : ℕ) → row + 1 < length places.now → slice_index places.now row ≤ slice_index places.now (row + 1) }
+    ensures long { length room.new ≡ length room.old }
+    ensures filled { take (4 * count) room.new ≡ flat_map (to_le_bytes w32) (span (length_from places.now) first count) }
+{
+    for k in 0..count {
+        let at = 4 * k;
+        room[at..at + 4].copy_from_slice(&length_between(places, first + k));
+    }
+}
+
+/// Adds the lengths of a few rows from one on.
+fn push_few_lengths(
+    bytes: &mut Vec<u8>,
+    places: &SharedPlaces,
+    first: usize,
+    count: usize,
+) -> Result<(), AllocError>
+    requires few { count ≤ 512 }
+    requires inside { first + count < length places.now }
+    requires fits { first + count < 2 ^ 64 }
+    requires ordered { (row : ℕ) → row + 1 < length places.now → slice_index places.now row ≤ slice_index places.now (row + 1) }
+    ensures { OnOk result (bytes.new.items ≡ bytes.old.items ++ flat_map (to_le_bytes w32) (span (length_from places.now) first count)) }
+{
+    let mut room = [0; 4 * LENGTHS];
+    fill_lengths(&mut room, places, first, count);
+    bytes.extend_from_slice(&room[..4 * count])
+}
+
 /// Adds the length of each of so many rows, from its place to the next.
-#[tactic(auto, using(crate::proofs::BehindLemmas::lengths_more))]
 fn push_lengths_between(
     bytes: &mut Vec<u8>,
     places: &SharedPlaces,
@@ -120,11 +162,11 @@ fn push_lengths_between(
     requires ordered { (row : ℕ) → row < rows → slice_index places.now row ≤ slice_index places.now (row + 1) }
     ensures { OnOk result (bytes.new.items ≡ bytes.old.items ++ flat_map (to_le_bytes w32) (span (length_from places.now) 0 rows)) }
 {
-    let mut place = places.at(0);
-    for row in 0..rows {
-        let next = places.behind(row);
-        push_length(bytes, next - place)?;
-        place = next;
+    let mut first = 0;
+    while first < rows {
+        let count = (rows - first).min(LENGTHS);
+        push_few_lengths(bytes, places, first, count)?;
+        first += count;
     }
     Ok(())
 }

@@ -85,8 +85,16 @@ fn stretched<'a>(ends: TextEnds<'a>, value: NumberedText<'a>) -> TextEnds<'a>
 {
     let TextEnds { least, greatest } = ends;
     TextEnds {
-        least: if comes_before(value, least) { value } else { least },
-        greatest: if comes_before(greatest, value) { value } else { greatest },
+        least: if comes_before(value, least) {
+            value
+        } else {
+            least
+        },
+        greatest: if comes_before(greatest, value) {
+            value
+        } else {
+            greatest
+        },
     }
 }
 
