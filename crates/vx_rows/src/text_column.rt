@@ -70,12 +70,7 @@ fn text_between<'a>(bytes: &'a [u8], places: &TextPlaces, rows: usize, row: usiz
 
 /// One of so many texts, of which none is null, between a place and the next.
 #[inline(always)]
-pub fn plain_text<'a>(
-    bytes: &'a [u8],
-    places: &[u32],
-    rows: usize,
-    row: usize,
-) -> Option<&'a str>
+pub fn plain_text<'a>(bytes: &'a [u8], places: &[u32], rows: usize, row: usize) -> Option<&'a str>
     requires long { length places.now ≡ rows + 1 }
     requires less { row < rows }
     requires ranges { AreRanges bytes.now places.now rows }
