@@ -58,7 +58,7 @@ fn greater_flag(a: Option<bool>, b: Option<bool>) -> Option<bool>
     if second && !first { b } else { a }
 }
 
-/// The least and the greatest of some integers, as keys.
+/// The least and the greatest of some integers, each as its key, which takes half the room of an i128.
 #[derive(Clone, Copy)]
 struct Ends {
     least: i64,
@@ -217,6 +217,7 @@ fn flag_at(column: &BoolColumn, present: &Mask, row: usize) -> Option<bool>
     }
 }
 
+/// The key of a row, or none where it is null or not present.
 #[inline(always)]
 #[tactic(auto, using(crate::proofs::ExtentLemmas::masked_at))]
 fn key_of_row(ptype: PType, column: &IntColumn, present: &Mask, row: usize) -> Option<i64>
@@ -360,7 +361,7 @@ fn owned(alloc: Global, text: Option<&str>) -> Result<Option<Scalar>, AllocError
 }
 
 /// What the ends of texts tell, where so many rows are null.
-fn told_by(alloc: Global, ends: Option<TextEnds>, nulls: u64) -> Result<Extent, AllocError>
+fn told_by_texts(alloc: Global, ends: Option<TextEnds>, nulls: u64) -> Result<Extent, AllocError>
     ensures { IfOk result (λ extent. extent ≡ record {
       min = option_map words (option_map (λ e. e.least.text.now) ends.entry);
       max = option_map words (option_map (λ e. e.greatest.text.now) ends.entry);
@@ -390,7 +391,7 @@ fn extent_of_plain_texts(
     for row in 0..count {
         ends = with_text(ends, plain_text(bytes, places, count, row));
     }
-    Ok(told_by(alloc, ends, 0)?)
+    Ok(told_by_texts(alloc, ends, 0)?)
 }
 
 /// Texts, of which some may be null or not present.
@@ -409,7 +410,7 @@ fn extent_of_nullable_texts(
         ends = with_text(ends, value);
         nulls += null_of(value);
     }
-    Ok(told_by(alloc, ends, nulls)?)
+    Ok(told_by_texts(alloc, ends, nulls)?)
 }
 
 /// Texts.

@@ -172,7 +172,8 @@ pub fn value_at(ptype: PType, bytes: &[u8], at: usize) -> i128
     }
 }
 
-/// The key of the value that begins at a byte.
+/// The value that begins at a byte, as a key: an i64 in the order of the values, where those of U64 are moved down by half of
+/// their range.
 #[inline(always)]
 pub fn key_at(ptype: PType, bytes: &[u8], at: usize) -> i64
     requires { at + value_size ptype ≤ length bytes.now }

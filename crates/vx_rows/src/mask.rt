@@ -48,16 +48,15 @@ impl Mask {
         self.bits[at]
     }
 
-    /// Whether each row is chosen.
+    /// Whether each row is chosen. No row ends the search, so that many rows are looked at at once.
     #[tactic(auto, using(crate::proofs::WrittenLemmas::next_flag))]
     pub(crate) fn are_all(&self) -> bool
         ensures { result ≡ list_all (λ b. b) self.now }
     {
+        let mut all = true;
         for row in 0..self.len() {
-            if !self.get(row) {
-                return false;
-            }
+            all = all & self.get(row);
         }
-        true
+        all
     }
 }

@@ -6,7 +6,8 @@ ghost use Rattle.std.specs.Ordering.{is_lt};
 ghost use Rattle.vx_rows.specs.RowStats.{lesser_of, greater_of, text_cmp};
 ghost use Rattle.vx_rows.specs.FirstBytes.{first_four as number_of};
 
-/// A text, and its first four bytes as one number: where two numbers differ, the texts are in their order.
+/// A text, and its first four bytes as one number: where two numbers differ, the texts are in their order. That its bytes are
+/// those of a text is kept, since it is not known of a text in a struct.
 #[derive(Clone, Copy)]
 struct NumberedText<'a> {
     text: &'a str,
@@ -54,6 +55,7 @@ fn first_four(bytes: &[u8]) -> u32
     u32::from_be_bytes([bytes[0], bytes[1], bytes[2], bytes[3]])
 }
 
+/// A text with its number.
 #[inline(always)]
 #[tactic(auto, using(crate::proofs::FirstLemmas::utf8_told))]
 fn numbered<'a>(text: &'a str) -> NumberedText<'a>

@@ -16,6 +16,6 @@ pub returns : goal.returns
 returns c =
     let long = masked_long c.args.present.now c.args.column.now.rows c.requires in
     let past : length c.args.column.now.rows ≤ c.loop-row.row = search rules in
-    c.in_ok-told_by.ensures
+    c.in_ok-told_by_texts.ensures
     ∙ gathered_summary text_cmp nat_list_cmp_total (masked c.args.present.now c.args.column.now.rows) c.loop-row.row _ _ c.loop-row.nulls c.loop-row.invariant
     words _ _ (omega (arith, past, long)) refl refl

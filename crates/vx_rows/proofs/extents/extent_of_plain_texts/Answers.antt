@@ -24,5 +24,5 @@ returns c =
     let f = text_row None c.args.bytes.now c.args.places.now in
     let long = length_span f 0 c.args.count in
     let past : c.args.count ≤ c.loop-row.row = search rules in
-    c.in_ok-told_by.ensures
+    c.in_ok-told_by_texts.ensures
     ∙ gathered_summary text_cmp nat_list_cmp_total (span f 0 c.args.count) c.loop-row.row _ _ 0 c.loop-row.invariant words _ _ (omega (arith, past, long)) refl refl

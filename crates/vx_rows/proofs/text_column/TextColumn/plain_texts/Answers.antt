@@ -1,4 +1,4 @@
-use Rattle.std.proofs.Common.{◌≡◌, List, ℕ, Bool, None, Option, rules}
+use Rattle.std.proofs.Common.{◌≡◌, None, rules}
 use Rattle.vx_rows.proofs.WrittenLemmas.{none_there}
 use Rattle.vx_rows.proofs.ExtentLemmas.{plain_texts_of}
 use Rattle.vx_rows.proofs.text_column.TextColumn.plain_texts.Goals as goal
