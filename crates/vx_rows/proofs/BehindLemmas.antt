@@ -25,15 +25,15 @@ use Rattle.vx_rows.proofs.JoinLemmas.{hold_at}
 -- ---- runs
 
 -- a run in two
-span-split : {A : Type 0} → (f : ℕ → A) (k m n : ℕ) → span f k (m + n) ≡ span f k m ++ span f (k + m) n
-span-split f k zero n =
+pub span_split : {A : Type 0} → (f : ℕ → A) (k m n : ℕ) → span f k (m + n) ≡ span f k m ++ span f (k + m) n
+span_split f k zero n =
     let z : 0 + n ≡ n = omega arith in
     let e : k ≡ k + 0 = omega arith in
     ap (span f k) z ∙ ap (λ j. span f j n) e
-span-split f k (suc m) n =
+span_split f k (suc m) n =
     let z : suc m + n ≡ suc (m + n) = omega arith in
     let e : k + 1 + m ≡ k + suc m = omega arith in
-    ap (span f k) z ∙ ap (λ xs. f k ∷ xs) (span-split f (k + 1) m n ∙ ap (λ j. span f (k + 1) m ++ span f j n) e)
+    ap (span f k) z ∙ ap (λ xs. f k ∷ xs) (span_split f (k + 1) m n ∙ ap (λ j. span f (k + 1) m ++ span f j n) e)
 
 -- what holds before a number and from it on
 both : (n m : ℕ) (P : ℕ → Type 0) → ((i : ℕ) → i < n → P i) → ((j : ℕ) → j < m → P (n + j)) → (i : ℕ) → i < n + m → P i
@@ -248,7 +248,7 @@ module _ (nullable : Bool) (flags : List Bool) (rows : List (Option (List ℕ)))
         let size : length (flags ++ map is_some rows) ≡ length flags + length rows = length-append flags (map is_some rows) ∙ ap (λ k. length flags + k) (map_long is_some rows) in
         let z : 0 + length flags ≡ length flags = omega arith in
         ap (span (text_row flags-then bytes' places') 0) size
-        ∙ span-split (text_row flags-then bytes' places') 0 (length flags) (length rows)
+        ∙ span_split (text_row flags-then bytes' places') 0 (length flags) (length rows)
         ∙ ap (λ xs. xs ++ span (text_row flags-then bytes' places') (0 + length flags) (length rows))
         (span_same (text_row flags-then bytes' places') (text_row (cond nullable (Some flags) None) bytes places) 0 (length flags) (λ i a b. row-same i (omega (arith, b))))
         ∙ ap (λ xs. span (text_row (cond nullable (Some flags) None) bytes places) 0 (length flags) ++ xs)

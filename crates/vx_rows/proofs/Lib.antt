@@ -45,3 +45,4 @@ pub mod FieldRowLemmas
 pub mod EvaluatedLemmas
 pub mod BehindLemmas
 pub mod PlacesLemmas
+pub mod WholeLemmas
