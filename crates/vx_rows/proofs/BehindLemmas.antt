@@ -303,19 +303,23 @@ texts_at_once held q count r = let z : 0 + count ≡ count = omega arith in run 
         ∙ ap (λ j. slice_range held (slice_index q k) (slice_index q j)) e
 
 -- all texts of a column without a bitmap
-pub texts_together : (nullable : Bool) (present : Option (List Bool)) (held q : List ℕ) (count : ℕ) (c : Texts) → record { nullable = nullable; rows = span (text_row present held q) 0 count } ≡ c
+pub texts_together : (nullable : Bool) (present : Option (List Bool)) (held q : List ℕ) (count : ℕ) (c : Texts)
+    → record { nullable = nullable; rows = span (text_row present held q) 0 count } ≡ c
     → present ≡ None → AreRanges held q count → slice_range held (slice_index q 0) (slice_index q count) ≡ flat_map text_bytes c.rows
 texts_together nullable present held q count c e none r =
-    sym (texts_at_once held q count r) ∙ ap (λ (p : Option (List Bool)). flat_map text_bytes (span (text_row p held q) 0 count)) (sym none) ∙ ap (λ (t : Texts). flat_map text_bytes t.rows) e
+    sym (texts_at_once held q count r) ∙ ap (λ (p : Option (List Bool)). flat_map text_bytes (span (text_row p held q) 0 count)) (sym none)
+    ∙ ap (λ (t : Texts). flat_map text_bytes t.rows) e
 
 -- and how long they are together
-pub texts_sum : (nullable : Bool) (present : Option (List Bool)) (held q : List ℕ) (count : ℕ) (c : Texts) → record { nullable = nullable; rows = span (text_row present held q) 0 count } ≡ c
+pub texts_sum : (nullable : Bool) (present : Option (List Bool)) (held q : List ℕ) (count : ℕ) (c : Texts)
+    → record { nullable = nullable; rows = span (text_row present held q) 0 count } ≡ c
     → present ≡ None → AreRanges held q count → length (slice_range held (slice_index q 0) (slice_index q count)) ≡ sum_by (λ row. length (text_bytes row)) c.rows
 texts_sum nullable present held q count c e none r = ap length (texts_together nullable present held q count c e none r) ∙ length-flat_map text_bytes c.rows
 
 -- ---- lengths by places
 
-pub lengths_more : (front : List ℕ) (f : ℕ → ℕ) (k : ℕ) → (front ++ flat_map (to_le_bytes w32) (span f 0 k)) ++ to_le_bytes w32 (f k) ≡ front ++ flat_map (to_le_bytes w32) (span f 0 (k + 1))
+pub lengths_more : (front : List ℕ) (f : ℕ → ℕ) (k : ℕ)
+    → (front ++ flat_map (to_le_bytes w32) (span f 0 k)) ++ to_le_bytes w32 (f k) ≡ front ++ flat_map (to_le_bytes w32) (span f 0 (k + 1))
 lengths_more front f k =
     let z : k ≡ 0 + k = omega arith in
     append_assoc front (flat_map (to_le_bytes w32) (span f 0 k)) (to_le_bytes w32 (f k))
@@ -323,7 +327,8 @@ lengths_more front f k =
     (ap (λ xs. flat_map (to_le_bytes w32) (span f 0 k) ++ xs) (sym (append-nil (to_le_bytes w32 (f k))) ∙ ap (λ i. to_le_bytes w32 (f i) ++ []) z)
     ∙ sym (flat_map-append (to_le_bytes w32) (span f 0 k) (f (0 + k) ∷ [])) ∙ ap (flat_map (to_le_bytes w32)) (sym (span_push f 0 k)))
 
-lengths_at_once : (held q : List ℕ) (count : ℕ) → AreRanges held q count → flat_map (to_le_bytes w32) (span (length_from q) 0 count) ≡ flat_map length_bytes (span (text_row None held q) 0 count)
+lengths_at_once : (held q : List ℕ) (count : ℕ) → AreRanges held q count
+    → flat_map (to_le_bytes w32) (span (length_from q) 0 count) ≡ flat_map length_bytes (span (text_row None held q) 0 count)
 lengths_at_once held q count r = run 0 count (omega arith)
   where
     long : (k : ℕ) → k < count → length_from q k ≡ length (slice_range held (slice_index q k) (slice_index q (k + 1)))
@@ -338,7 +343,8 @@ lengths_at_once held q count r = run 0 count (omega arith)
         ap (λ n. to_le_bytes w32 n ++ flat_map (to_le_bytes w32) (span (length_from q) (k + 1) m)) (long k (omega (arith, h)))
         ∙ ap (λ ys. length_bytes (text_row None held q k) ++ ys) (run (k + 1) m (omega (arith, h)))
 
-pub lengths_together : (nullable : Bool) (present : Option (List Bool)) (held q : List ℕ) (count : ℕ) (c : Texts) → record { nullable = nullable; rows = span (text_row present held q) 0 count } ≡ c
+pub lengths_together : (nullable : Bool) (present : Option (List Bool)) (held q : List ℕ) (count : ℕ) (c : Texts)
+    → record { nullable = nullable; rows = span (text_row present held q) 0 count } ≡ c
     → present ≡ None → AreRanges held q count → flat_map (to_le_bytes w32) (span (length_from q) 0 count) ≡ flat_map length_bytes c.rows
 lengths_together nullable present held q count c e none r =
     lengths_at_once held q count r ∙ ap (λ (p : Option (List Bool)). flat_map length_bytes (span (text_row p held q) 0 count)) (sym none)

@@ -24,7 +24,8 @@ returns c =
     let even : s.first % 8 ≡ 0 = omega (arith, c.if-self-ne0.false) in
     let inside : s.at + s.first / 8 + s.count / 8 ≤ length b = omega (arith, room, even) in
     let some : s.count / 8 ≤ bitmap_size (length rows) = omega (arith, long) in
-    let bytes : (i : ℕ) → slice_index b i < 2 ^ 8 = subst (λ (xs : List ℕ). (i : ℕ) → slice_index xs i < 2 ^ 8) c.as_slice.ensures.value c.in_ok-push_whole.ensures.bytes in
+    let bytes : (i : ℕ) → slice_index b i < 2 ^ 8 =
+    subst (λ (xs : List ℕ). (i : ℕ) → slice_index xs i < 2 ^ 8) c.as_slice.ensures.value c.in_ok-push_whole.ensures.bytes in
     let whole : c.push_whole.new.out.items ≡ front ++ slice_range b (s.at + s.first / 8) (s.at + s.first / 8 + s.count / 8) = search rules in
     let all : c.push_whole.new.out.items ++ span (bitmap_byte c.args.self.now) (s.count / 8) (bitmap_size (length c.args.self.now) - s.count / 8) ≡ front ++ bitmap c.args.self.now =
     subst (λ (xs : List Bool). c.push_whole.new.out.items ++ span (bitmap_byte xs) (s.count / 8) (bitmap_size (length xs) - s.count / 8) ≡ front ++ bitmap xs) c.self.view_is
