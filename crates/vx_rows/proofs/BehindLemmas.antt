@@ -25,15 +25,15 @@ use Rattle.vx_rows.proofs.JoinLemmas.{hold_at}
 -- ---- runs
 
 -- a run in two
-span-split : {A : Type 0} → (f : ℕ → A) (k m n : ℕ) → span f k (m + n) ≡ span f k m ++ span f (k + m) n
-span-split f k zero n =
+pub span_split : {A : Type 0} → (f : ℕ → A) (k m n : ℕ) → span f k (m + n) ≡ span f k m ++ span f (k + m) n
+span_split f k zero n =
     let z : 0 + n ≡ n = omega arith in
     let e : k ≡ k + 0 = omega arith in
     ap (span f k) z ∙ ap (λ j. span f j n) e
-span-split f k (suc m) n =
+span_split f k (suc m) n =
     let z : suc m + n ≡ suc (m + n) = omega arith in
     let e : k + 1 + m ≡ k + suc m = omega arith in
-    ap (span f k) z ∙ ap (λ xs. f k ∷ xs) (span-split f (k + 1) m n ∙ ap (λ j. span f (k + 1) m ++ span f j n) e)
+    ap (span f k) z ∙ ap (λ xs. f k ∷ xs) (span_split f (k + 1) m n ∙ ap (λ j. span f (k + 1) m ++ span f j n) e)
 
 -- what holds before a number and from it on
 both : (n m : ℕ) (P : ℕ → Type 0) → ((i : ℕ) → i < n → P i) → ((j : ℕ) → j < m → P (n + j)) → (i : ℕ) → i < n + m → P i
@@ -248,7 +248,7 @@ module _ (nullable : Bool) (flags : List Bool) (rows : List (Option (List ℕ)))
         let size : length (flags ++ map is_some rows) ≡ length flags + length rows = length-append flags (map is_some rows) ∙ ap (λ k. length flags + k) (map_long is_some rows) in
         let z : 0 + length flags ≡ length flags = omega arith in
         ap (span (text_row flags-then bytes' places') 0) size
-        ∙ span-split (text_row flags-then bytes' places') 0 (length flags) (length rows)
+        ∙ span_split (text_row flags-then bytes' places') 0 (length flags) (length rows)
         ∙ ap (λ xs. xs ++ span (text_row flags-then bytes' places') (0 + length flags) (length rows))
         (span_same (text_row flags-then bytes' places') (text_row (cond nullable (Some flags) None) bytes places) 0 (length flags) (λ i a b. row-same i (omega (arith, b))))
         ∙ ap (λ xs. span (text_row (cond nullable (Some flags) None) bytes places) 0 (length flags) ++ xs)
@@ -303,19 +303,23 @@ texts_at_once held q count r = let z : 0 + count ≡ count = omega arith in run 
         ∙ ap (λ j. slice_range held (slice_index q k) (slice_index q j)) e
 
 -- all texts of a column without a bitmap
-pub texts_together : (nullable : Bool) (present : Option (List Bool)) (held q : List ℕ) (count : ℕ) (c : Texts) → record { nullable = nullable; rows = span (text_row present held q) 0 count } ≡ c
+pub texts_together : (nullable : Bool) (present : Option (List Bool)) (held q : List ℕ) (count : ℕ) (c : Texts)
+    → record { nullable = nullable; rows = span (text_row present held q) 0 count } ≡ c
     → present ≡ None → AreRanges held q count → slice_range held (slice_index q 0) (slice_index q count) ≡ flat_map text_bytes c.rows
 texts_together nullable present held q count c e none r =
-    sym (texts_at_once held q count r) ∙ ap (λ (p : Option (List Bool)). flat_map text_bytes (span (text_row p held q) 0 count)) (sym none) ∙ ap (λ (t : Texts). flat_map text_bytes t.rows) e
+    sym (texts_at_once held q count r) ∙ ap (λ (p : Option (List Bool)). flat_map text_bytes (span (text_row p held q) 0 count)) (sym none)
+    ∙ ap (λ (t : Texts). flat_map text_bytes t.rows) e
 
 -- and how long they are together
-pub texts_sum : (nullable : Bool) (present : Option (List Bool)) (held q : List ℕ) (count : ℕ) (c : Texts) → record { nullable = nullable; rows = span (text_row present held q) 0 count } ≡ c
+pub texts_sum : (nullable : Bool) (present : Option (List Bool)) (held q : List ℕ) (count : ℕ) (c : Texts)
+    → record { nullable = nullable; rows = span (text_row present held q) 0 count } ≡ c
     → present ≡ None → AreRanges held q count → length (slice_range held (slice_index q 0) (slice_index q count)) ≡ sum_by (λ row. length (text_bytes row)) c.rows
 texts_sum nullable present held q count c e none r = ap length (texts_together nullable present held q count c e none r) ∙ length-flat_map text_bytes c.rows
 
 -- ---- lengths by places
 
-lengths_at_once : (held q : List ℕ) (count : ℕ) → AreRanges held q count → flat_map (to_le_bytes w32) (span (length_from q) 0 count) ≡ flat_map length_bytes (span (text_row None held q) 0 count)
+lengths_at_once : (held q : List ℕ) (count : ℕ) → AreRanges held q count
+    → flat_map (to_le_bytes w32) (span (length_from q) 0 count) ≡ flat_map length_bytes (span (text_row None held q) 0 count)
 lengths_at_once held q count r = run 0 count (omega arith)
   where
     long : (k : ℕ) → k < count → length_from q k ≡ length (slice_range held (slice_index q k) (slice_index q (k + 1)))
@@ -330,7 +334,8 @@ lengths_at_once held q count r = run 0 count (omega arith)
         ap (λ n. to_le_bytes w32 n ++ flat_map (to_le_bytes w32) (span (length_from q) (k + 1) m)) (long k (omega (arith, h)))
         ∙ ap (λ ys. length_bytes (text_row None held q k) ++ ys) (run (k + 1) m (omega (arith, h)))
 
-pub lengths_together : (nullable : Bool) (present : Option (List Bool)) (held q : List ℕ) (count : ℕ) (c : Texts) → record { nullable = nullable; rows = span (text_row present held q) 0 count } ≡ c
+pub lengths_together : (nullable : Bool) (present : Option (List Bool)) (held q : List ℕ) (count : ℕ) (c : Texts)
+    → record { nullable = nullable; rows = span (text_row present held q) 0 count } ≡ c
     → present ≡ None → AreRanges held q count → flat_map (to_le_bytes w32) (span (length_from q) 0 count) ≡ flat_map length_bytes c.rows
 lengths_together nullable present held q count c e none r =
     lengths_at_once held q count r ∙ ap (λ (p : Option (List Bool)). flat_map length_bytes (span (text_row p held q) 0 count)) (sym none)

@@ -47,3 +47,4 @@ pub mod EvaluatedLemmas
 pub mod BehindLemmas
 pub mod PlacesLemmas
 pub mod FillingLemmas
+pub mod WholeLemmas

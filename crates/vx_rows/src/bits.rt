@@ -1,5 +1,5 @@
 //! Truth values in a bitmap.
-ghost use Rattle.std.specs.Prelude.{◌≡◌, ◌++◌, ◌+◌, ◌*◌, ◌<◌, ◌≤◌, ◌^◌, length, slice_index_or, slice_range, true, false, IfOk, OnOk};
+ghost use Rattle.std.specs.Prelude.{ℕ, slice_index, ◌≡◌, ◌++◌, ◌+◌, ◌-◌, ◌*◌, ◌<◌, ◌≤◌, ◌^◌, length, slice_index_or, slice_range, true, false, IfOk, OnOk};
 ghost use Rattle.std.specs.List.{list_all};
 ghost use Rattle.vx_rows.specs.Span.{span, every};
 ghost use Rattle.vx_rows.specs.Bits.{bit, bit_value, bitmap_byte, bitmap_size, bitmap};
@@ -97,6 +97,15 @@ pub fn bitmap_of(alloc: Global, rows: &[bool]) -> Result<Vec<u8>, AllocError>
     Ok(bytes)
 }
 
+/// Adds bytes of a bitmap as they are.
+fn push_whole(out: &mut Vec<u8>, bytes: &[u8], from: usize, count: usize) -> Result<(), AllocError>
+    requires { from + count ≤ length bytes.now }
+    ensures same { OnOk result (out.new.items ≡ out.old.items ++ slice_range bytes.now from (from + count)) }
+    ensures bytes { (i : ℕ) → slice_index bytes.now i < 2 ^ 8 }
+{
+    out.extend_from_slice(&bytes[from..from + count])
+}
+
 impl Bits {
     /// Truth values of their own. Only memory refuses.
     #[tactic(auto, using(crate::proofs::BitmapLemmas::bitmap_read, crate::proofs::SpanLemmas::length_span))]
@@ -187,15 +196,28 @@ impl Bits {
             + 128 * self.bit_value(first + 7)
     }
 
-    /// Adds the bitmap.
-    #[tactic(auto, using(crate::proofs::SpanLemmas::span_push))]
-    pub(crate) fn push_bytes(&self, bytes: &mut Vec<u8>) -> Result<(), AllocError>
-        ensures { OnOk result (bytes.new.items ≡ bytes.old.items ++ bitmap self.now) }
+    /// Adds the bytes of the bitmap from one on, each of its eight rows.
+    #[tactic(auto, using(crate::proofs::WholeLemmas::run_more))]
+    fn push_from(&self, bytes: &mut Vec<u8>, from: usize) -> Result<(), AllocError>
+        requires { from ≤ bitmap_size (length self.now) }
+        ensures { OnOk result (bytes.new.items ≡ bytes.old.items ++ span (bitmap_byte self.now) from (bitmap_size (length self.now) - from)) }
     {
-        for k in 0..bitmap_len(self.len()) {
+        for k in from..bitmap_len(self.len()) {
             bytes.push(self.byte(k))?;
         }
         Ok(())
+    }
+
+    /// Adds the bitmap. Where its rows begin at a byte, whole bytes are copied.
+    pub(crate) fn push_bytes(&self, bytes: &mut Vec<u8>) -> Result<(), AllocError>
+        ensures { OnOk result (bytes.new.items ≡ bytes.old.items ++ bitmap self.now) }
+    {
+        if self.first % 8 != 0 {
+            return self.push_from(bytes, 0);
+        }
+        let whole = self.count / 8;
+        push_whole(bytes, self.held.as_slice(), self.at + self.first / 8, whole)?;
+        self.push_from(bytes, whole)
     }
 
     /// The rows from one on, up to another. Only memory refuses.

@@ -5,4 +5,5 @@ use Rattle.vx_rows.proofs.text_places.push_narrow_ends.Given as goal
 
 -- the ends so far, and room for the others
 abbrev pub invariant-loop-row : goal.invariant-loop-row
-invariant-loop-row l = (l.narrow.items ≡ l.fn.narrow.items ++ span (end_from l.places l.start) 0 l.row) × (vec_len l.narrow + l.rows ≤ vec_capacity l.narrow + l.row) × (l.row ≤ l.rows)
+invariant-loop-row l =
+    (l.narrow.items ≡ l.fn.narrow.items ++ span (end_from l.places l.start) 0 l.row) × (vec_len l.narrow + l.rows ≤ vec_capacity l.narrow + l.row) × (l.row ≤ l.rows)
