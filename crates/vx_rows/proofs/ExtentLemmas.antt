@@ -319,7 +319,8 @@ plain_texts_of present held bytes places narrow count nullable v none shared sam
       texts = subst (λ n. AreTexts held places n) (sym size) valid;
       values = ap (λ n. span (text_row None held places) 0 n) (sym size);
     } in
-    subst (λ bs. ArePlainTexts v.rows bs narrow) (sym shared) (subst (λ ps. ArePlainTexts v.rows held ps) (sym same) (subst (λ rows. ArePlainTexts rows held places) (ap (λ (t : Texts). t.rows) is)
+    subst (λ bs. ArePlainTexts v.rows bs narrow) (sym shared) (subst (λ ps. ArePlainTexts v.rows held ps) (sym same)
+    (subst (λ rows. ArePlainTexts rows held places) (ap (λ (t : Texts). t.rows) is)
     (subst (λ p. ArePlainTexts (span (text_row p held places) 0 count) held places) (sym none) plain)))
 
 pub plain_texts_summary : (b places : List ℕ) (c : Texts) (present : List Bool) (s : Summary) → length present ≡ length c.rows → list_all (λ b. b) present ≡ true

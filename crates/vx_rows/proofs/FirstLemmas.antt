@@ -47,7 +47,8 @@ tells_more w number t = record { none = lacking; few = few; less = less }
     less [] (y ∷ ys) f g h = refl
     less (x ∷ xs) [] f g h = absurd (omega (arith, h, t.none))
     less (x ∷ xs) (y ∷ ys) f g h = elim (cases_order x y) [
-      | inl same ↦ ap (λ o. ordering_then o (text_cmp xs ys)) (sym (nat_cmp_is x y Equal same)) ∙ t.less xs ys (λ i. f (suc i)) (λ i. g (suc i)) (let e = ap (λ n. w * n) same in omega (arith, h, e))
+      | inl same ↦ ap (λ o. ordering_then o (text_cmp xs ys)) (sym (nat_cmp_is x y Equal same))
+          ∙ t.less xs ys (λ i. f (suc i)) (λ i. g (suc i)) (let e = ap (λ n. w * n) same in omega (arith, h, e))
       | inr (inl below) ↦ ap (λ o. ordering_then o (text_cmp xs ys)) (sym (nat_cmp_is x y Less below))
       | inr (inr above) ↦ absurd (let r = over w y x (number ys) (number xs) above (t.few ys (λ i. g (suc i))) in omega (arith, h, r))
     ]

@@ -9,4 +9,5 @@ use Rattle.vx_rows.proofs.extents.extent_of_nullable.Given as goal
 -- what the rows so far tell, with those still to come
 abbrev pub invariant-loop-row : goal.invariant-loop-row
 invariant-loop-row l =
-    Gathered int_cmp (masked l.present l.column.rows) l.row (option_map (of_key l.ptype) (option_map (λ (e : Ends). e.least) l.ends)) (option_map (of_key l.ptype) (option_map (λ (e : Ends). e.greatest) l.ends)) l.nulls
+    Gathered int_cmp (masked l.present l.column.rows) l.row
+    (option_map (of_key l.ptype) (option_map (λ (e : Ends). e.least) l.ends)) (option_map (of_key l.ptype) (option_map (λ (e : Ends). e.greatest) l.ends)) l.nulls

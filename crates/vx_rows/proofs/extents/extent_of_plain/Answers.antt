@@ -34,7 +34,8 @@ loop-row-preserved c =
     c.plain_key.ensures ∙ ap f (omega arith) ∙ sym (get_or_span f 0 c.args.count c.loop-row.row None less) in
     let low = c.widened-ends.ensures.least ∙ ap (λ k. lesser int_cmp c.loop-row.ends.least k) fits in
     let high = c.widened-ends.ensures.greatest ∙ ap (λ k. lesser (flip_args int_cmp) c.loop-row.ends.greatest k) fits in
-    gathered_step int_cmp int_cmp_total (span f 0 c.args.count) c.loop-row.row (Some (of_key c.args.ptype c.loop-row.ends.least)) (Some (of_key c.args.ptype c.loop-row.ends.greatest)) 0 c.loop-row.invariant
+    gathered_step int_cmp int_cmp_total (span f 0 c.args.count) c.loop-row.row
+    (Some (of_key c.args.ptype c.loop-row.ends.least)) (Some (of_key c.args.ptype c.loop-row.ends.greatest)) 0 c.loop-row.invariant
     _ _ (Some (of_key c.args.ptype key)) 0 (omega (arith, less, long)) here
     (ap (λ k. Some (of_key c.args.ptype k)) low ∙ lesser_key c.args.ptype (Some c.loop-row.ends.least) (Some key))
     (ap (λ k. Some (of_key c.args.ptype k)) high ∙ greater_key c.args.ptype (Some c.loop-row.ends.greatest) (Some key)) refl
@@ -45,4 +46,5 @@ returns c =
     let long = length_span f 0 c.args.count in
     let past : c.args.count ≤ c.loop-row.row = search rules in
     c.told_by_keys.ensures
-    ∙ gathered_summary int_cmp int_cmp_total (span f 0 c.args.count) c.loop-row.row (Some (of_key c.args.ptype c.loop-row.ends.least)) (Some (of_key c.args.ptype c.loop-row.ends.greatest)) 0 c.loop-row.invariant number _ _ (omega (arith, past, long)) refl refl
+    ∙ gathered_summary int_cmp int_cmp_total (span f 0 c.args.count) c.loop-row.row
+    (Some (of_key c.args.ptype c.loop-row.ends.least)) (Some (of_key c.args.ptype c.loop-row.ends.greatest)) 0 c.loop-row.invariant number _ _ (omega (arith, past, long)) refl refl

@@ -8,4 +8,6 @@ use Rattle.vx_rows.proofs.extents.extent_of_plain_texts.Given as goal
 
 -- what the rows so far tell, with those still to come
 abbrev pub invariant-loop-row : goal.invariant-loop-row
-invariant-loop-row l = Gathered text_cmp (span (text_row None l.bytes l.places) 0 l.count) l.row (option_map (λ (e : TextEnds). e.least.text.now) l.ends) (option_map (λ (e : TextEnds). e.greatest.text.now) l.ends) 0
+invariant-loop-row l =
+    Gathered text_cmp (span (text_row None l.bytes l.places) 0 l.count) l.row
+    (option_map (λ (e : TextEnds). e.least.text.now) l.ends) (option_map (λ (e : TextEnds). e.greatest.text.now) l.ends) 0

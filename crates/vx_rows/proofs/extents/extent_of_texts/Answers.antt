@@ -9,6 +9,7 @@ use Rattle.vx_rows.proofs.extents.extent_of_texts.Goals as goal
 
 pub returns : goal.returns
 returns c =
+    let f = text_row None c.in-Some.bytes.now c.in-Some.places.now in
     let all : list_all (λ b. b) c.args.present.now ≡ true = search rules in
-    let tells : c.in_ok-extent_of_plain_texts.field-0 ≡ summary_by words text_cmp (span (text_row None c.in-Some.bytes.now c.in-Some.places.now) 0 (length c.args.column.now.rows)) = search rules in
+    let tells : c.in_ok-extent_of_plain_texts.field-0 ≡ summary_by words text_cmp (span f 0 (length c.args.column.now.rows)) = search rules in
     plain_texts_summary c.in-Some.bytes.now c.in-Some.places.now c.args.column.now c.args.present.now _ c.requires all c.in-Some.ensures tells
