@@ -125,8 +125,10 @@ fn widened<'a>(ends: Option<TextEnds<'a>>, text: &'a str) -> TextEnds<'a>
 /// The ends of texts and of a row, which may have none.
 #[inline(always)]
 pub fn with_text<'a>(ends: Option<TextEnds<'a>>, row: Option<&'a str>) -> Option<TextEnds<'a>>
-    ensures least { option_map (λ e. e.least.text.now) result ≡ lesser_of text_cmp (option_map (λ e. e.least.text.now) ends.entry) (option_map (λ v. v.now) row.entry) }
-    ensures greatest { option_map (λ e. e.greatest.text.now) result ≡ greater_of text_cmp (option_map (λ e. e.greatest.text.now) ends.entry) (option_map (λ v. v.now) row.entry) }
+    ensures least { option_map (λ e. e.least.text.now) result
+        ≡ lesser_of text_cmp (option_map (λ e. e.least.text.now) ends.entry) (option_map (λ v. v.now) row.entry) }
+    ensures greatest { option_map (λ e. e.greatest.text.now) result
+        ≡ greater_of text_cmp (option_map (λ e. e.greatest.text.now) ends.entry) (option_map (λ v. v.now) row.entry) }
 {
     match row {
         None => ends,

@@ -1,5 +1,6 @@
 //! Where texts lie in their bytes.
-ghost use Rattle.std.specs.Prelude.{◌≡◌, ◌+◌, ◌++◌, ◌∷◌, ◌-◌, ◌≤◌, ◌<◌, ◌^◌, ℕ, [], length, take, slice_index, slice_range, IfOk, IfSome, OnOk, OnErr};
+ghost use Rattle.std.specs.Prelude.{◌≡◌, ◌+◌, ◌++◌, ◌∷◌, ◌-◌, ◌≤◌, ◌<◌, ◌^◌, ℕ, []};
+ghost use Rattle.std.specs.Prelude.{length, take, slice_index, slice_range, IfOk, IfSome, OnOk, OnErr};
 ghost use Rattle.vx_rows.specs.Span.{span};
 ghost use Rattle.vx_rows.specs.TextsBehind.{end_from};
 
