@@ -212,6 +212,24 @@ pub fn plain_key(ptype: PType, bytes: &[u8], at: usize, rows: usize, row: usize)
     key_at(ptype, bytes, place_of(ptype, at, row))
 }
 
+/// The value of a row, where the values begin at a byte. One look at the type tells its place and its bytes.
+#[inline(always)]
+fn value_of_row(ptype: PType, bytes: &[u8], at: usize, row: usize) -> i128
+    requires { value_place ptype at row + value_size ptype ≤ length bytes.now }
+    ensures { result ≡ value_of ptype (raw_at ptype bytes.now (value_place ptype at row)) }
+{
+    match ptype {
+        PType::U8 => i128::from(u8_at(bytes, at + row)),
+        PType::U16 => i128::from(u16_at(bytes, at + 2 * row)),
+        PType::U32 => i128::from(u32_at(bytes, at + 4 * row)),
+        PType::U64 => i128::from(u64_at(bytes, at + 8 * row)),
+        PType::I8 => i128::from(i8_at(bytes, at + row)),
+        PType::I16 => i128::from(i16_at(bytes, at + 2 * row)),
+        PType::I32 => i128::from(i32_at(bytes, at + 4 * row)),
+        PType::I64 => i128::from(i64_at(bytes, at + 8 * row)),
+    }
+}
+
 /// One of so many rows, of which none is null, where the values begin at a byte.
 #[inline(always)]
 #[tactic(auto, using(crate::proofs::IntLemmas::place_inside, crate::proofs::IntLemmas::place_bound))]
@@ -350,9 +368,7 @@ impl IntColumn {
         requires here { is_some (slice_index_or self.now.rows row None) ≡ true }
         ensures { slice_index_or self.now.rows row None ≡ Some result }
     {
-        let bytes = self.held.as_slice();
-        let place = place_of(ptype, self.at, row);
-        value_at(ptype, bytes, place)
+        value_of_row(ptype, self.held.as_slice(), self.at, row)
     }
 
     /// The value of a row of integers of a type, if there is such a row and it has one.
