@@ -1,6 +1,6 @@
 -- Bytes of ASCII, and the lines of a table.
 use Rattle.std.proofs.Common.{◌≡◌, ℕ, zero, suc, ◌+◌, ◌-◌, ◌<◌, ◌≤◌, Bool, true, false, List, [], ◌∷◌, length, take, drop, map, Option, Some, None, Err, refl, ap, sym, ◌∙◌, subst, arith}
-use Rattle.std.specs.Prelude.{slice_index, ◌==◌, nat_lt}
+use Rattle.std.specs.Prelude.{slice_index, ◌==◌, ◌&&◌, nat_lt}
 use Rattle.std.specs.List.{list_all}
 use Rattle.std.specs.Str.{IsAscii, IsUtf8}
 use Rattle.std.proofs.lemmas.Bool.Decides.{nat_tests}
@@ -18,6 +18,28 @@ use Rattle.vx_main.specs.Tables.{as_ascii, first_line, behind_line}
 
 abbrev pub is_low : ℕ → Bool
 is_low b = nat_lt b 128
+
+pub greater_second : (a b : ℕ) → a < b → is_low b ≡ (is_low a && is_low b)
+greater_second a b h = grind (arith, nat_tests)
+
+pub greater_first : (a b : ℕ) → b ≤ a → is_low a ≡ (is_low a && is_low b)
+greater_first a b h = grind (arith, nat_tests)
+
+and-true : (b : Bool) → (b && true) ≡ (true && b)
+and-true true = refl
+and-true false = refl
+
+and-assoc : (a b c : Bool) → (a && (b && c)) ≡ ((a && b) && c)
+and-assoc true b c = refl
+and-assoc false b c = refl
+
+-- one byte more
+pub more_low : (t : List ℕ) (i : ℕ) → i < length t → list_all is_low (take (i + 1) t) ≡ (list_all is_low (take i t) && is_low (slice_index t i))
+more_low [] i h = absurd (omega (arith, h))
+more_low (c ∷ cs) zero h = and-true (is_low c)
+more_low (c ∷ cs) (suc i) h =
+    let e : suc i + 1 ≡ suc (i + 1) = omega arith in
+    rw e (ap (λ b. is_low c && b) (more_low cs i (omega (arith, h))) ∙ and-assoc (is_low c) (list_all is_low (take i cs)) (is_low (slice_index cs i)))
 
 low : (b : ℕ) → is_low b ≡ true → b < 128
 low b h = grind (arith, nat_tests)

@@ -5,7 +5,7 @@ use Rattle.vx_data.specs.declared.ptype.PType.TheVariants.{U32, I64}
 use Rattle.vx_data.specs.Dtype.{Dtype, int, text, struct, no_fields, field}
 use Rattle.vx_data.specs.Session.{all_enabled}
 use Rattle.vx_footer.specs.declared.write_error.WriteError.{WriteError}
-use Rattle.vx_rows.specs.Rows.{Rows, ints, texts, structs, no_columns, column}
+use Rattle.vx_rows.specs.Rows.{Rows, FieldRows, ints, texts, structs, no_columns, column}
 use Rattle.vx_rows.specs.Span.{span}
 use Rattle.vx_write.specs.Options.{Options, default_options}
 use Rattle.vx_main.specs.MadeFiles.{made_bytes, file_refusal}
@@ -42,10 +42,13 @@ scores seed rows = ints (record { ptype = I64; nullable = true; rows = span (sco
 abbrev pub names : ℕ → ℕ → Rows
 names seed rows = texts (record { nullable = false; rows = span (name_of seed) 0 rows })
 
+-- the columns under their names
+abbrev pub generated_columns : ℕ → ℕ → FieldRows
+generated_columns seed rows = column (codes "id") (ids rows) (column (codes "score") (scores seed rows) (column (codes "name") (names seed rows) no_columns))
+
 -- so many rows from a seed
 abbrev pub generated : ℕ → ℕ → Rows
-generated seed rows = structs (record { nullable = false; present = span is_there 0 rows })
-    (column (codes "id") (ids rows) (column (codes "score") (scores seed rows) (column (codes "name") (names seed rows) no_columns)))
+generated seed rows = structs (record { nullable = false; present = span is_there 0 rows }) (generated_columns seed rows)
 
 abbrev pub generated_dtype : Dtype
 generated_dtype = struct (field (codes "id") (int U32 false) (field (codes "score") (int I64 true) (field (codes "name") (text false) no_fields))) false

@@ -1,5 +1,5 @@
-//! The bytes of the columns of generated rows.
-ghost use Rattle.std.specs.Prelude.{◌≡◌, ◌≤◌, ◌<◌, ◌+◌, ◌%◌, ◌++◌, length, decimal, IfOk, OnOk};
+//! The bytes of the arrays of generated columns.
+ghost use Rattle.std.specs.Prelude.{◌≡◌, ◌≤◌, ◌<◌, ◌+◌, ◌*◌, ◌%◌, ◌++◌, length, take, decimal, IfOk, OnOk};
 ghost use Rattle.std.specs.Int.{w16, w64, to_le_bytes};
 ghost use Rattle.std.specs.List.{flat_map};
 ghost use Rattle.vx_data.specs.declared.ptype.PType.TheVariants.{U32, I64};
@@ -7,7 +7,7 @@ ghost use Rattle.vx_rows.specs.Bits.{bit_value, bitmap_byte, bitmap};
 ghost use Rattle.vx_rows.specs.Span.{span, every};
 ghost use Rattle.vx_rows.specs.Written.{cell, flags_bytes, length_bytes as length_in, text_bytes};
 ghost use Rattle.vx_rows.specs.Encoded.{array_bytes};
-ghost use Rattle.vx_main.specs.Generated.{has_score as has_value, id_of, score_of, name_of, ids, scores, names, generated, generated_arrays};
+ghost use Rattle.vx_main.specs.Generated.{has_score as has_value, id_of, score_of, name_of, ids, scores, names, generated_arrays};
 ghost use Rattle.vx_main.specs.declared.generated_bytes.TheConstants.{MOST_ROWS};
 
 use itoa::Buffer;
@@ -15,6 +15,9 @@ use std::alloc::{AllocError, Global};
 
 /// The most rows that are generated.
 pub const MOST_ROWS: u64 = 1_000_000;
+
+/// How many values are put at once.
+const BLOCK: usize = 512;
 
 /// Adds the place of an array's id.
 fn push_index(bytes: &mut Vec<u8>, place: u16) -> Result<(), AllocError>
@@ -26,6 +29,7 @@ fn push_index(bytes: &mut Vec<u8>, place: u16) -> Result<(), AllocError>
 // ---- values
 
 /// The bytes of an id.
+#[inline(always)]
 fn id_bytes(row: u64) -> [u8; 4]
     requires { row ≤ MOST_ROWS }
     ensures { result ≡ cell U32 (id_of row) }
@@ -34,6 +38,7 @@ fn id_bytes(row: u64) -> [u8; 4]
 }
 
 /// Whether a row has a score.
+#[inline(always)]
 fn has_score(seed: u32, row: u64) -> bool
     requires { row ≤ MOST_ROWS }
     ensures { result ≡ has_value seed row }
@@ -41,16 +46,18 @@ fn has_score(seed: u32, row: u64) -> bool
     (row + u64::from(seed)) % 5 != 0
 }
 
-/// The score of a row, or 0 where it has none.
-fn score(seed: u32, row: u64) -> u64
+/// The bytes of the score of a row, which are 0 where it has none.
+#[inline(always)]
+fn score_bytes(seed: u32, row: u64) -> [u8; 8]
     requires { row ≤ MOST_ROWS }
-    ensures { to_le_bytes w64 result ≡ cell I64 (score_of seed row) }
+    ensures { result ≡ cell I64 (score_of seed row) }
 {
-    if has_score(seed, row) {
+    let score = if has_score(seed, row) {
         3 * row + u64::from(seed)
     } else {
         0
-    }
+    };
+    score.to_le_bytes()
 }
 
 /// The number in the name of a row.
@@ -96,26 +103,87 @@ fn push_name(bytes: &mut Vec<u8>, seed: u32, row: u64) -> Result<(), AllocError>
     bytes.extend_from_slice(number.as_bytes())
 }
 
-// ---- values of all rows
+// ---- values of rows
 
-#[tactic(auto, using(crate::proofs::GeneratedLemmas::flat_none))]
+/// Fills room with the ids of rows from one on.
+#[inline(always)]
+fn fill_ids(room: &mut [u8], first: u64, count: usize)
+    requires room { 4 * count ≤ length room.old }
+    requires few { first + count ≤ MOST_ROWS }
+    ensures long { length room.new ≡ length room.old }
+    ensures filled { take (4 * count) room.new ≡ flat_map (cell U32) (span id_of first count) }
+{
+    for k in 0..count {
+        let at = 4 * k;
+        room[at..at + 4].copy_from_slice(&id_bytes(first + k as u64));
+    }
+}
+
+/// Adds the ids of a few rows from one on.
+fn push_few_ids(bytes: &mut Vec<u8>, first: u64, count: usize) -> Result<(), AllocError>
+    requires room { count ≤ 512 }
+    requires few { first + count ≤ MOST_ROWS }
+    ensures { OnOk result (bytes.new.items ≡ bytes.old.items ++ flat_map (cell U32) (span id_of first count)) }
+{
+    let mut room = [0; 4 * BLOCK];
+    fill_ids(&mut room, first, count);
+    bytes.extend_from_slice(&room[..4 * count])
+}
+
+/// Adds the ids of so many rows.
 fn push_id_values(bytes: &mut Vec<u8>, rows: u64) -> Result<(), AllocError>
     requires { rows ≤ MOST_ROWS }
     ensures { OnOk result (bytes.new.items ≡ bytes.old.items ++ flat_map (cell U32) (span id_of 0 rows)) }
 {
-    for row in 0..rows {
-        bytes.extend_from_slice(&id_bytes(row))?;
+    let mut first = 0;
+    while first < rows {
+        let count = (rows - first).min(BLOCK as u64);
+        push_few_ids(bytes, first, count as usize)?;
+        first += count;
     }
     Ok(())
 }
 
-#[tactic(auto, using(crate::proofs::GeneratedLemmas::flat_none))]
+/// Fills room with the scores of rows from one on.
+#[inline(always)]
+fn fill_scores(room: &mut [u8], seed: u32, first: u64, count: usize)
+    requires room { 8 * count ≤ length room.old }
+    requires few { first + count ≤ MOST_ROWS }
+    ensures long { length room.new ≡ length room.old }
+    ensures filled { take (8 * count) room.new ≡ flat_map (cell I64) (span (score_of seed) first count) }
+{
+    for k in 0..count {
+        let at = 8 * k;
+        room[at..at + 8].copy_from_slice(&score_bytes(seed, first + k as u64));
+    }
+}
+
+/// Adds the scores of a few rows from one on.
+fn push_few_scores(
+    bytes: &mut Vec<u8>,
+    seed: u32,
+    first: u64,
+    count: usize,
+) -> Result<(), AllocError>
+    requires room { count ≤ 512 }
+    requires few { first + count ≤ MOST_ROWS }
+    ensures { OnOk result (bytes.new.items ≡ bytes.old.items ++ flat_map (cell I64) (span (score_of seed) first count)) }
+{
+    let mut room = [0; 8 * BLOCK];
+    fill_scores(&mut room, seed, first, count);
+    bytes.extend_from_slice(&room[..8 * count])
+}
+
+/// Adds the scores of so many rows.
 fn push_score_values(bytes: &mut Vec<u8>, seed: u32, rows: u64) -> Result<(), AllocError>
     requires { rows ≤ MOST_ROWS }
     ensures { OnOk result (bytes.new.items ≡ bytes.old.items ++ flat_map (cell I64) (span (score_of seed) 0 rows)) }
 {
-    for row in 0..rows {
-        bytes.extend_from_slice(&score(seed, row).to_le_bytes())?;
+    let mut first = 0;
+    while first < rows {
+        let count = (rows - first).min(BLOCK as u64);
+        push_few_scores(bytes, seed, first, count as usize)?;
+        first += count;
     }
     Ok(())
 }
@@ -214,52 +282,43 @@ fn push_flags(bytes: &mut Vec<u8>, seed: u32, rows: u64) -> Result<(), AllocErro
     Ok(())
 }
 
-// ---- columns
+// ---- arrays
 
+/// The bytes of the array of the ids of so many rows.
 #[tactic(auto, using(crate::proofs::GeneratedLemmas::ids_made))]
-fn push_ids(bytes: &mut Vec<u8>, rows: u64) -> Result<(), AllocError>
+pub(crate) fn id_array(alloc: Global, rows: u64) -> Result<Vec<u8>, AllocError>
     requires { rows ≤ MOST_ROWS }
-    ensures { OnOk result (bytes.new.items ≡ bytes.old.items ++ array_bytes generated_arrays (ids rows)) }
+    ensures { IfOk result (λ bytes. bytes.items ≡ array_bytes generated_arrays (ids rows)) }
 {
-    push_index(bytes, 0)?;
-    push_id_values(bytes, rows)?;
-    Ok(())
+    let mut bytes = Vec::with_capacity(alloc, 2 + 4 * rows as usize)?;
+    push_index(&mut bytes, 0)?;
+    push_id_values(&mut bytes, rows)?;
+    Ok(bytes)
 }
 
+/// The bytes of the array of the scores of so many rows from a seed.
 #[tactic(auto, using(crate::proofs::GeneratedLemmas::scores_made))]
-fn push_scores(bytes: &mut Vec<u8>, seed: u32, rows: u64) -> Result<(), AllocError>
+pub(crate) fn score_array(alloc: Global, seed: u32, rows: u64) -> Result<Vec<u8>, AllocError>
     requires { rows ≤ MOST_ROWS }
-    ensures { OnOk result (bytes.new.items ≡ bytes.old.items ++ array_bytes generated_arrays (scores seed rows)) }
+    ensures { IfOk result (λ bytes. bytes.items ≡ array_bytes generated_arrays (scores seed rows)) }
 {
-    push_index(bytes, 0)?;
-    push_flags(bytes, seed, rows)?;
-    push_score_values(bytes, seed, rows)?;
-    Ok(())
+    // a byte before the bitmap, and its last one
+    let mut bytes = Vec::with_capacity(alloc, 4 + 8 * rows as usize + rows as usize / 8)?;
+    push_index(&mut bytes, 0)?;
+    push_flags(&mut bytes, seed, rows)?;
+    push_score_values(&mut bytes, seed, rows)?;
+    Ok(bytes)
 }
 
+/// The bytes of the array of the names of so many rows from a seed.
 #[tactic(auto, using(crate::proofs::GeneratedLemmas::names_made))]
-fn push_names(bytes: &mut Vec<u8>, seed: u32, rows: u64) -> Result<(), AllocError>
+pub(crate) fn name_array(alloc: Global, seed: u32, rows: u64) -> Result<Vec<u8>, AllocError>
     requires { rows ≤ MOST_ROWS }
-    ensures { OnOk result (bytes.new.items ≡ bytes.old.items ++ array_bytes generated_arrays (names seed rows)) }
+    ensures { IfOk result (λ bytes. bytes.items ≡ array_bytes generated_arrays (names seed rows)) }
 {
-    push_index(bytes, 2)?;
-    push_name_lengths(bytes, seed, rows)?;
-    push_name_texts(bytes, seed, rows)?;
-    Ok(())
-}
-
-/// The bytes of the array of so many rows from a seed.
-#[tactic(auto, using(crate::proofs::GeneratedLemmas::rows_made))]
-pub(crate) fn generated_bytes(alloc: Global, seed: u32, rows: u64) -> Result<Vec<u8>, AllocError>
-    requires { rows ≤ MOST_ROWS }
-    ensures { IfOk result (λ bytes. bytes.items ≡ array_bytes generated_arrays (generated seed rows)) }
-{
-    // at most 4 bytes of an id, 8 of a score and its bit, 4 of a length and 4 of a name, and a few before each column
-    let most = (20 * rows + rows / 8 + 16) as usize;
-    let mut bytes = Vec::with_capacity(alloc, most)?;
-    push_index(&mut bytes, 1)?;
-    push_ids(&mut bytes, rows)?;
-    push_scores(&mut bytes, seed, rows)?;
-    push_names(&mut bytes, seed, rows)?;
+    let mut bytes = Vec::new(alloc);
+    push_index(&mut bytes, 2)?;
+    push_name_lengths(&mut bytes, seed, rows)?;
+    push_name_texts(&mut bytes, seed, rows)?;
     Ok(bytes)
 }

@@ -1,5 +1,5 @@
 //! The rows that an input spells: a line with their type, and a line for each of them.
-ghost use Rattle.std.specs.Prelude.{◌≡◌, ◌+◌, ◌<◌, ◌≤◌, ◌^◌, length, map, true, false, IfOk};
+ghost use Rattle.std.specs.Prelude.{◌≡◌, ◌&&◌, ◌+◌, ◌<◌, ◌≤◌, ◌^◌, length, map, true, false, IfOk};
 ghost use Rattle.std.specs.List.{list_all};
 ghost use Rattle.std.specs.Prelude.{nat_lt};
 ghost use Rattle.std.specs.Str.{IsAscii};
@@ -48,10 +48,25 @@ fn ascii_byte(byte: u8) -> u8
     if byte < 128 { byte } else { 0 }
 }
 
+/// The greater of two bytes, which is ASCII where both are.
+#[inline(always)]
+#[tactic(auto, using(crate::proofs::TableLemmas::greater_first, crate::proofs::TableLemmas::greater_second))]
+fn greater(a: u8, b: u8) -> u8
+    ensures { nat_lt result 128 ≡ (nat_lt a 128 && nat_lt b 128) }
+{
+    if b > a { b } else { a }
+}
+
+/// Whether all bytes are ASCII. The greatest tells, which is found many bytes at a time.
+#[tactic(auto, using(crate::proofs::TableLemmas::more_low))]
 fn is_ascii(text: &[u8]) -> bool
     ensures { result ≡ list_all (λ b. nat_lt b 128) text.now }
 {
-    text.iter().all(|byte| *byte < 128)
+    let mut greatest = 0;
+    for byte in text {
+        greatest = greater(greatest, *byte);
+    }
+    greatest < 128
 }
 
 /// The text with 0 in place of each byte that is not ASCII. Only memory refuses.
@@ -86,10 +101,7 @@ fn as_text(bytes: &[u8]) -> &str
     requires { IsAscii bytes.now }
     ensures { result.now ≡ bytes.now }
 {
-    match str::from_utf8(bytes) {
-        Ok(text) => text,
-        Err(_) => unreachable!(),
-    }
+    unsafe { str::from_utf8_unchecked(bytes) }
 }
 
 impl Table {

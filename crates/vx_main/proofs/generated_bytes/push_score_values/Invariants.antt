@@ -1,4 +1,4 @@
-use Rattle.std.proofs.Common.{◌≡◌, ◌++◌, ◌-◌}
+use Rattle.std.proofs.Common.{◌≡◌, ◌-◌, ◌≤◌, ◌++◌}
 use Rattle.std.specs.List.{flat_map}
 use Rattle.vx_data.specs.declared.ptype.PType.TheVariants.{I64}
 use Rattle.vx_rows.specs.Span.{span}
@@ -6,6 +6,9 @@ use Rattle.vx_rows.specs.Written.{cell}
 use Rattle.vx_main.specs.Generated.{score_of}
 use Rattle.vx_main.proofs.generated_bytes.push_score_values.Given as goal
 
--- what is there and the values still to come
-abbrev pub invariant-loop-row : goal.invariant-loop-row
-invariant-loop-row l = l.bytes.items ++ flat_map (cell I64) (span (score_of l.seed) l.row (l.rows - l.row)) ≡ l.fn.bytes.items ++ flat_map (cell I64) (span (score_of l.seed) 0 l.rows)
+abbrev pub decreases-loop-first : goal.decreases-loop-first
+decreases-loop-first l = l.rows - l.first
+
+-- the values of the rows in front are there
+abbrev pub invariant-loop-first : goal.invariant-loop-first
+invariant-loop-first l = record { inside : l.first ≤ l.rows; there : l.bytes.items ≡ l.fn.bytes.items ++ flat_map (cell I64) (span (score_of l.seed) 0 l.first) }
