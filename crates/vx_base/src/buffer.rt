@@ -1,8 +1,8 @@
 //! Bytes that are cut and shared without a copy.
-ghost use Rattle.std.specs.Prelude.{◌≡◌, ◌^◌, ◌<◌, ◌≤◌, ◌==◌, length, slice_range, IfOk};
+ghost use Rattle.std.specs.Prelude.{◌≡◌, ◌^◌, ◌<◌, ◌≤◌, ◌==◌, ◌++◌, length, slice_range, IfOk};
 
 use crate::Alignment;
-use bytes::Bytes;
+use bytes::{Bytes, BytesMut};
 use std::alloc::{AllocError, Global};
 use std::marker::Model;
 use std::ops::Range;
@@ -63,6 +63,20 @@ impl ByteBuffer {
             held,
             aligned: self.aligned,
         })
+    }
+
+    /// The same bytes with others behind them. Where this is their only owner they are not copied.
+    pub fn extended(self, alloc: Global, behind: &[u8]) -> Result<ByteBuffer, AllocError>
+        ensures { IfOk result (λ b. b ≡ record self { bytes = self.bytes ++ behind.now }) }
+    {
+        let ByteBuffer { held, aligned } = self;
+        let mut bytes = match held.try_into_mut() {
+            Ok(bytes) => bytes,
+            Err(shared) => BytesMut::copy_from_slice(alloc, shared.as_slice())?,
+        };
+        bytes.extend_from_slice(behind)?;
+        let held = bytes.freeze()?;
+        Ok(ByteBuffer { held, aligned })
     }
 
     /// The same bytes, which claim another alignment.

@@ -14,6 +14,9 @@ use std::os::unix::fs::FileExt;
 // As many ranges as one call may ask.
 const MOST_RANGES: usize = 8;
 
+// As many bytes are made and filled at once. So few are still near the processor when they are filled.
+const BLOCK: usize = 1 << 18;
+
 /// A reader over an open file, with no distance, no read limit and a concurrency of 8.
 #[derive(Drop)]
 pub struct FileReader {
@@ -52,12 +55,30 @@ impl FileReader {
         Err(Failed)
     }
 
+    // Adds the bytes of a range to none, block by block. Tells whether the file has all of them.
+    fn read_blocks(
+        &self,
+        bytes: &mut Vec<u8>,
+        offset: u64,
+        length: usize,
+    ) -> Result<bool, AllocError> {
+        for done in (0..length).step_by(BLOCK) {
+            bytes.resize(done.saturating_add(BLOCK).min(length), 0)?;
+            let place = offset.wrapping_add(done as u64);
+            if self.fill(&mut bytes.as_mut_slice()[done..], place).is_err() {
+                return Ok(false);
+            }
+        }
+        Ok(true)
+    }
+
     // The answer to one range.
     fn answer(&self, alloc: Global, range: &ReadAtRequest) -> Result<RangeAnswer, AllocError> {
-        let mut bytes = vec![in alloc; 0u8; range.length]?;
-        let result = match self.fill(bytes.as_mut_slice(), range.offset) {
-            Ok(()) => Ok(ByteBuffer::from_vec(alloc, bytes, range.alignment)?),
-            Err(failed) => Err(failed),
+        let mut bytes = Vec::with_capacity(alloc, range.length)?;
+        let result = if self.read_blocks(&mut bytes, range.offset, range.length)? {
+            Ok(ByteBuffer::from_vec(alloc, bytes, range.alignment)?)
+        } else {
+            Err(Failed)
         };
         Ok(RangeAnswer {
             request: *range,

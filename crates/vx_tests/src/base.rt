@@ -30,6 +30,12 @@ fn buffers_are_cut_and_shared(rt: HostRuntime) -> Result<(), Fail> {
         .aligned(Alignment::new(3).ok().ok_or("no alignment")?);
     assert_eq!(rt; part.share(rt.alloc())?.as_slice(), b"ort".as_slice());
     assert_eq!(rt; part.alignment().as_u64(), 8);
+    // the bytes of one are shared, and those of the other are not
+    let longer = part.extended(rt.alloc(), b"ex")?;
+    assert_eq!(rt; longer.as_slice(), b"ortex".as_slice());
+    assert_eq!(rt; longer.alignment().as_u64(), 8);
+    let alone = buffer(rt.alloc(), b"vor")?.extended(rt.alloc(), b"tex")?;
+    assert_eq!(rt; alone.as_slice(), whole.as_slice());
     Ok(())
 }
 
