@@ -1,9 +1,10 @@
 pub mod Shapes
 pub mod Shared
 pub mod Known
-pub mod Rows
+pub mod Lengths
 pub mod Fitted
 pub mod Fitting
+pub mod Asked
 pub mod FieldTexts
 pub mod Sets
 pub mod Children

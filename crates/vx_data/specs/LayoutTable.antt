@@ -7,8 +7,6 @@ use Rattle.vx_tables.specs.Field.{Table, Vector, root, field, numbers_of_vector}
 use Rattle.vx_tables.specs.Counted.{Counted, ◌>>=◌, pure, free, enter, present, each_table, or_empty, or_zero, vector_of, allowed}
 use Rattle.vx_data.specs.declared.layout_kind.LayoutKind.{LayoutKind}
 use Rattle.vx_data.specs.declared.layout_kind.LayoutKind.TheVariants.{Flat, Chunked, Struct}
-use Rattle.vx_data.specs.declared.layout_row.LayoutRow.{LayoutRow, fold-LayoutRow}
-use Rattle.vx_data.specs.declared.layout_row.LayoutRow.TheOpen.{LayoutRow-F}
 use Rattle.vx_data.specs.declared.segment_ids.SegmentIds.{SegmentIds}
 use Rattle.vx_data.specs.declared.segment_ids.SegmentIds.TheVariants.{One, Listed}
 use Rattle.vx_base.specs.declared.segment.SegmentId.{SegmentId}
@@ -16,7 +14,7 @@ use Rattle.vx_data.specs.declared.data_error.DataError.{DataError}
 use Rattle.vx_data.specs.declared.data_error.DataError.TheVariants.{BadTable, UnknownEncoding}
 use Rattle.vx_base.specs.Checks.{◌>>=◌ as ◌passes◌, ◌unless◌, ◌lacking◌}
 use Rattle.vx_data.specs.Dtype.{Dtype}
-use Rattle.vx_data.specs.Layout.{LayoutTree, node, layouts_of, numbers_of, child_dtypes, has_shape}
+use Rattle.vx_data.specs.Layout.{LayoutTree, node, layouts_of, child_dtypes, has_shape}
 
 -- ---- a layout as its table has it
 
@@ -40,12 +38,6 @@ rows_count (a_row r rs) = suc (rows_count rs)
 abbrev pub ids_in : SegmentIds → List SegmentId
 ids_in (One id) = id ∷ []
 ids_in (Listed ids) = ids.items
-
-abbrev pub row_step : LayoutRow-F Row → Row
-row_step f = row f.encoding f.row_count (numbers_of (ids_in f.segments)) (rows_list f.children.items)
-
-abbrev pub row_view : LayoutRow → Row
-row_view = fold-LayoutRow Row row_step
 
 -- ---- the table: encoding, rows, children, segments
 

@@ -2,9 +2,11 @@ pub mod Refusing
 pub mod Dtype
 pub mod DtypeTable
 pub mod Layout
+pub mod LayoutParts
 pub mod Codes
 pub mod Sizes
 pub mod LayoutTable
+pub mod LayoutFound
 pub mod Texts
 pub mod Scalar
 pub mod Stats

@@ -1,9 +1,9 @@
 //! How the rows of a column are laid out in segments.
-ghost use Rattle.std.specs.Prelude.{◌≡◌, ◌<◌, ◌^◌, ◌==◌, [], ◌∷◌, IfOk, length, map, Some, replicate};
+ghost use Rattle.std.specs.Prelude.{◌≡◌, ◌<◌, ◌^◌, [], ◌∷◌, IfOk, length, map, replicate};
 ghost use Rattle.std.specs.Arc.{arc_value};
-ghost use Rattle.std.specs.Option.{option_to_list};
 ghost use Rattle.vx_data.specs.Dtype.{dtype_view};
 ghost use Rattle.vx_data.specs.Layout.{node, no_layouts, layouts_of, numbers_of, kind_of, dtype_of, rows_of, segments_of, children_of, rows_sum, Fits};
+ghost use Rattle.vx_data.specs.LayoutParts.{kind_in, segments_in, below_in};
 
 use crate::{DType, LayoutKind};
 use std::alloc::{AllocError, Global};
@@ -13,36 +13,44 @@ use std::sync::Arc;
 use vx_base::SegmentId;
 
 /// How the rows of a column are laid out: a tree that fits the column's type at every node.
+#[cycle(layout)]
 #[derive(Debug, Drop)]
 pub struct Layout {
-    dtype: DType,
+    dtype: Arc<DType, Global>,
     row_count: u64,
-    children: Arc<Vec<Layout>, Global>,
-    // a flat layout has one, and no other layout has any
-    segment: Option<SegmentId>,
-    kind: LayoutKind,
+    parts: Parts,
+}
+
+/// What a layout is made of: its kind, and a segment or the layouts below.
+#[cycle(layout)]
+#[derive(Debug, Drop)]
+pub(crate) enum Parts {
+    Flat(SegmentId),
+    Chunked(Arc<Vec<Layout>, Global>),
+    Struct(Arc<Vec<Layout>, Global>),
 }
 
 impl Model for Layout {
-    ghost use Rattle.std.specs.Arc.{arc_value};
-    ghost use Rattle.std.specs.Option.{option_to_list};
-    ghost use Rattle.std.proofs.Common.{arith};
-    ghost use Rattle.vx_data.specs.Dtype.{dtype_view};
-    ghost use Rattle.vx_data.specs.Layout.{LayoutTree, node, layouts_of, numbers_of, Fits, tree_size};
+    ghost use Rattle.vx_data.specs.Layout.{LayoutTree, node, layouts_of, Fits, tree_size};
     ghost use Rattle.vx_data.specs.Codes.{tree_code};
-    ghost use Rattle.vx_data.specs.Sizes.{most_le-sizes};
 
     ghost Value = { LayoutTree };
 
     ghost coded = { tree_code };
 
-    ghost view = { λ a. node a.kind (dtype_view a.dtype) a.row_count (numbers_of (option_to_list a.segment)) (layouts_of (arc_value a.children).items) };
+    ghost use Rattle.std.specs.Arc.{arc_value};
+    ghost use Rattle.vx_data.specs.Dtype.{dtype_view};
+    ghost use Rattle.vx_data.specs.LayoutParts.{kind_in, segments_in, below_in};
 
-    ghost invariant = { λ a. Fits a.kind (dtype_view a.dtype) a.row_count (numbers_of (option_to_list a.segment)) (arc_value a.children).items };
+    ghost view = { λ a. node (kind_in a.parts) (dtype_view (arc_value a.dtype)) a.row_count (segments_in a.parts) (layouts_of (below_in a.parts)) };
+
+    ghost invariant = { λ a. Fits (kind_in a.parts) (dtype_view (arc_value a.dtype)) a.row_count (segments_in a.parts) (below_in a.parts) };
 
     ghost size = { tree_size };
 
-    ghost size_decreases = { λ a h. omega (arith, most_le-sizes (arc_value a.children).items) };
+    ghost use Rattle.vx_data.specs.Sizes.{depth_le-sizes};
+
+    ghost size_decreases = { λ a h. depth_le-sizes a.parts };
 }
 
 /// The sum of the children's rows.
@@ -57,39 +65,31 @@ fn sum_of(children: &[Layout]) -> u64
     rows
 }
 
-/// Layouts with room for more owners. Where there are none, they take no memory of their own.
-pub(crate) fn held(
-    alloc: Global,
-    none: &Arc<Vec<Layout>, Global>,
-    layouts: Vec<Layout>,
-) -> Result<Arc<Vec<Layout>, Global>, AllocError>
-    requires { (arc_value none.now).items ≡ [] }
-    ensures { IfOk result (λ held. (arc_value held).items ≡ layouts.items) }
-{
-    if layouts.is_empty() {
-        return Ok(Arc::try_clone(none)?);
+impl Parts {
+    /// The same parts. Layouts are not copied.
+    fn share(&self) -> Result<Parts, AllocError>
+        ensures kind { IfOk result (λ shared. kind_in shared ≡ kind_in self.now) }
+        ensures segments { IfOk result (λ shared. segments_in shared ≡ segments_in self.now) }
+        ensures below { IfOk result (λ shared. below_in shared ≡ below_in self.now) }
+    {
+        match self {
+            Parts::Flat(segment) => Ok(Parts::Flat(*segment)),
+            Parts::Chunked(layouts) => Ok(Parts::Chunked(Arc::try_clone(layouts)?)),
+            Parts::Struct(layouts) => Ok(Parts::Struct(Arc::try_clone(layouts)?)),
+        }
     }
-    Ok(Arc::new(alloc, layouts)?)
 }
 
 impl Layout {
     /// A layout of these parts.
-    pub(crate) fn made(
-        kind: LayoutKind,
-        dtype: DType,
-        row_count: u64,
-        segment: Option<SegmentId>,
-        children: Arc<Vec<Layout>, Global>,
-    ) -> Layout
-        requires { Fits kind (dtype_view dtype) row_count (numbers_of (option_to_list segment)) (arc_value children).items }
-        ensures { result ≡ node kind (dtype_view dtype) row_count (numbers_of (option_to_list segment)) (layouts_of (arc_value children).items) }
+    pub(crate) fn made(dtype: Arc<DType, Global>, row_count: u64, parts: Parts) -> Layout
+        requires { Fits (kind_in parts) (dtype_view (arc_value dtype)) row_count (segments_in parts) (below_in parts) }
+        ensures { result ≡ node (kind_in parts) (dtype_view (arc_value dtype)) row_count (segments_in parts) (layouts_of (below_in parts)) }
     {
         Layout {
             dtype,
             row_count,
-            children,
-            segment,
-            kind,
+            parts,
         }
     }
 
@@ -102,8 +102,8 @@ impl Layout {
     ) -> Result<Layout, AllocError>
         ensures { IfOk result (λ layout. layout ≡ node LayoutKind.Flat (dtype_view dtype) row_count (segment.0 ∷ []) no_layouts) }
     {
-        let children = Arc::new(alloc, Vec::new(alloc))?;
-        Ok(Layout::made(LayoutKind::Flat, dtype, row_count, Some(segment), children))
+        let dtype = Arc::new(alloc, dtype)?;
+        Ok(Layout::made(dtype, row_count, Parts::Flat(segment)))
     }
 
     /// The layout of the rows of its children, one behind the other. Each has this type.
@@ -113,8 +113,9 @@ impl Layout {
         ensures { IfOk result (λ layout. layout ≡ node LayoutKind.Chunked (dtype_view dtype) (rows_sum children.items) [] (layouts_of children.items)) }
     {
         let rows = sum_of(&children);
+        let dtype = Arc::new(alloc, dtype)?;
         let children = Arc::new(alloc, children)?;
-        Ok(Layout::made(LayoutKind::Chunked, dtype, rows, None, children))
+        Ok(Layout::made(dtype, rows, Parts::Chunked(children)))
     }
 
     /// The layout of the rows of a struct, by its fields.
@@ -127,15 +128,20 @@ impl Layout {
         requires { Fits LayoutKind.Struct (dtype_view dtype) row_count [] children.items }
         ensures { IfOk result (λ layout. layout ≡ node LayoutKind.Struct (dtype_view dtype) row_count [] (layouts_of children.items)) }
     {
+        let dtype = Arc::new(alloc, dtype)?;
         let children = Arc::new(alloc, children)?;
-        Ok(Layout::made(LayoutKind::Struct, dtype, row_count, None, children))
+        Ok(Layout::made(dtype, row_count, Parts::Struct(children)))
     }
 
     /// How the rows are kept.
     pub fn kind(&self) -> LayoutKind
         ensures { result ≡ kind_of self.now }
     {
-        self.kind
+        match &self.parts {
+            Parts::Flat(_) => LayoutKind::Flat,
+            Parts::Chunked(_) => LayoutKind::Chunked,
+            Parts::Struct(_) => LayoutKind::Struct,
+        }
     }
 
     /// The type of the rows.
@@ -156,9 +162,9 @@ impl Layout {
     pub fn segment_ids(&self) -> &[SegmentId]
         ensures { numbers_of result.now ≡ segments_of self.now }
     {
-        match &self.segment {
-            Some(segment) => array::from_ref(segment),
-            None => &[],
+        match &self.parts {
+            Parts::Flat(segment) => array::from_ref(segment),
+            Parts::Chunked(_) | Parts::Struct(_) => &[],
         }
     }
 
@@ -166,7 +172,7 @@ impl Layout {
     pub fn children(&self) -> &[Layout]
         ensures { layouts_of result.now ≡ children_of self.now }
     {
-        &self.children
+        self.fitted_children()
     }
 
     /// The layouts below, over which the layout fits its type.
@@ -174,7 +180,11 @@ impl Layout {
         ensures below { layouts_of result.now ≡ children_of self.now }
         ensures fits { Fits (kind_of self.now) (dtype_of self.now) (rows_of self.now) (segments_of self.now) result.now }
     {
-        &self.children
+        match &self.parts {
+            Parts::Flat(_) => &[],
+            Parts::Chunked(layouts) => layouts,
+            Parts::Struct(layouts) => layouts,
+        }
     }
 
     /// The layouts below, whose rows are those of the layout where it is chunked.
@@ -182,21 +192,19 @@ impl Layout {
         ensures below { layouts_of result.now ≡ children_of self.now }
         ensures rows { kind_of self.now ≡ LayoutKind.Chunked → rows_sum result.now < 2 ^ 64 }
     {
-        let rows = self.row_count;
+        let rows = self.row_count();
         prove!(rows <= u64::MAX);
-        &self.children
+        self.fitted_children()
     }
 
-    /// The same layout. Its children are not copied.
+    /// The same layout. Neither its type nor its children are copied.
     pub fn share(&self, alloc: Global) -> Result<Layout, AllocError>
         ensures { IfOk result (λ layout. layout ≡ self.now) }
     {
         Ok(Layout {
-            dtype: self.dtype.share(alloc)?,
+            dtype: Arc::try_clone(&self.dtype)?,
             row_count: self.row_count,
-            children: Arc::try_clone(&self.children)?,
-            segment: self.segment,
-            kind: self.kind,
+            parts: self.parts.share()?,
         })
     }
 }

@@ -1,9 +1,8 @@
 //! The layout ids that are known, and whether a tree uses no others.
 ghost use Rattle.std.specs.Prelude.{◌≡◌, IfOk, map, string_bytes};
-ghost use Rattle.vx_data.specs.LayoutTable.{row_view, rows_list, kind_of_id, kind_at as kind_in, row_known, rows_known};
+ghost use Rattle.vx_data.specs.LayoutTable.{kind_of_id, kind_at as kind_in};
 
 use crate::LayoutKind;
-use crate::layout_row::LayoutRow;
 use std::alloc::{AllocError, Global};
 
 /// The kind of layout that an id names, where it is known.
@@ -41,26 +40,4 @@ pub(crate) fn kind_at(kinds: &[Option<LayoutKind>], encoding: u16) -> Option<Lay
         Some(kind) => *kind,
         None => None,
     }
-}
-
-/// Whether a layout and all below it are of known kinds.
-#[cycle(knowing)]
-#[tactic(auto, using(crate::proofs::Rows::row_is))]
-pub(crate) fn is_known(kinds: &[Option<LayoutKind>], row: &LayoutRow) -> bool
-    ensures { result ≡ row_known kinds.now (row_view row.now) }
-{
-    kind_at(kinds, row.encoding).is_some() && are_known(kinds, &row.children)
-}
-
-#[cycle(knowing)]
-#[tactic(auto, using(crate::proofs::Rows::next_known))]
-fn are_known(kinds: &[Option<LayoutKind>], rows: &[LayoutRow]) -> bool
-    ensures { result ≡ rows_known kinds.now (rows_list (map row_view rows.now)) }
-{
-    for at in 0..rows.len() {
-        if !is_known(kinds, &rows[at]) {
-            return false;
-        }
-    }
-    true
 }

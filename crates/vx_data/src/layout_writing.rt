@@ -57,7 +57,7 @@ fn own_visits(children: &[Layout], segments: &[SegmentId]) -> u64
 }
 
 /// The visits of a vector of segments.
-#[tactic(auto, using(crate::proofs::Rows::lengths))]
+#[tactic(auto, using(crate::proofs::Lengths::lengths))]
 fn segment_visits(segments: &[SegmentId]) -> u64
     ensures value { result ≡ segments_visits (numbers_of segments.now) }
     ensures few { result ≤ 2305843009213693952 }

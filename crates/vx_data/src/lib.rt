@@ -16,7 +16,6 @@ mod layout_ids;
 mod layout_kind;
 mod layout_kinds;
 mod layout_reading;
-mod layout_row;
 mod layout_shape;
 mod layout_table;
 mod layout_walk;

@@ -204,7 +204,7 @@ fn all_of(
 
 /// The statistics of the columns of a file of this type that a table spells: one set for each field of a
 /// struct, or one. All of the grammar comes before the number of sets, and that before the scalars.
-#[tactic(auto, using(crate::proofs::Rows::lengths), unfolding(crate::specs::StatsTable::stats_checks))]
+#[tactic(auto, using(crate::proofs::Lengths::lengths), unfolding(crate::specs::StatsTable::stats_checks))]
 pub fn read_stats(
     alloc: Global,
     bytes: &[u8],

@@ -202,7 +202,7 @@ impl<'a> TableReader<'a> {
         slot: usize,
         elements: Elements,
         visits: &mut Visits,
-    ) -> Result<Option<VectorReader<'_>>, BadTable>
+    ) -> Result<Option<VectorReader<'a>>, BadTable>
         ensures value { taken (option_map (λ r. r.vector)) result visits.new
             ≡ charge (optional_cost (vector_cost elements)) (vector_field self.now.bytes self.now.table slot elements) visits.old }
         ensures within { IfOk result (λ o. IfSome o (IsVectorOf self.now elements)) }

@@ -1,8 +1,7 @@
-use Rattle.std.proofs.Common.{◌≡◌, ◌*◌, ◌+◌, map}
-use Rattle.vx_tables.specs.Field.{table_of_vector}
-use Rattle.vx_tables.specs.Counted.{within, enter, each_table}
-use Rattle.vx_tables.proofs.Walk.{walk_from}
-use Rattle.vx_data.specs.LayoutTable.{row_view, row_at}
+use Rattle.std.proofs.Common.{◌*◌, ◌+◌}
+use Rattle.std.specs.Option.{option_map}
+use Rattle.vx_data.specs.LayoutFound.{owned_dtype}
+use Rattle.vx_data.proofs.Fitting.{SoFar}
 use Rattle.vx_data.proofs.layout_walk.+walking.Given as goal
 
 abbrev pub decreases-read_in : goal.decreases-read_in
@@ -14,8 +13,7 @@ decreases-read_children l = 4 * l.table.now.levels + 1
 abbrev pub decreases-read_elements : goal.decreases-read_elements
 decreases-read_elements l = 4 * l.vector.now.levels
 
--- the layouts so far and those still to come are those of the vector
+-- the rows so far and those still to come are those of the vector, and the layouts are of those so far
 abbrev pub invariant-read_elements-loop-at : goal.invariant-read_elements-loop-at
 invariant-read_elements-loop-at l =
-    let b = l.vector.bytes in let v = l.vector.vector in let n = l.vector.levels in
-    walk_from (λ i. enter (table_of_vector b v i) (row_at l.specs n b)) v.count n l.visits l.at (map row_view l.rows.items) ≡ within n l.fn.visits (each_table b (row_at l.specs n b) v)
+    SoFar l.kinds l.kind (owned_dtype l.dtype) l.vector.bytes l.vector.vector l.vector.levels l.fn.visits l.visits l.at l.fn.known l.known (option_map (λ v. v.items) l.layouts)
