@@ -1,6 +1,6 @@
 -- Which segments count for a path, by their common paths.
-use Rattle.std.proofs.Common.{◌≡◌, ℕ, zero, suc, ◌+◌, ◌-◌, ◌<◌, ◌≤◌, min, Bool, true, false, List, [], ◌∷◌, ◌++◌, length, get_or, take, drop, map, Option, Some, None, refl, ap, ap₂, sym, subst, ◌∙◌, arith, inl, inr, ◌⊎◌}
-use Rattle.std.specs.Prelude.{◌==◌, ◌*◌, ◌^◌, ◌&&◌, ◌||◌, not, nat_lt, nat_le, slice_set, if◌then◌else◌, unwrap_or, replicate}
+use Rattle.std.proofs.Common.{◌≡◌, ℕ, zero, suc, ◌+◌, ◌<◌, min, Bool, true, false, List, [], ◌∷◌, length, get_or, take, Option, Some, None, refl, ap, ap₂, sym, ◌∙◌, arith}
+use Rattle.std.specs.Prelude.{◌==◌, ◌^◌, ◌&&◌, ◌||◌, not, slice_set, if◌then◌else◌, unwrap_or, replicate}
 use Rattle.std.specs.Str.{bytes_eq}
 use Rattle.std.specs.List.{list_any, list_all}
 use Rattle.std.specs.List.Sorted.{IsStrictlySortedBy}
@@ -8,13 +8,13 @@ use Rattle.std.specs.Map.{keys_of}
 use Rattle.std.specs.Option.{option_map}
 use Rattle.std.specs.BTreeMap.{is_at}
 use Rattle.std.proofs.lemmas.Bool.Decides.{nat_tests}
-use Rattle.std.proofs.lemmas.Bool.{cases_lt}
 use Rattle.std.proofs.lemmas.List.{get_or-set_same, get_or-set_other, length-set, length-replicate, get_or-replicate}
 use Rattle.std.proofs.lemmas.Slice.Eq.{bytes_eq-Decides}
 use Rattle.vx_base.specs.declared.segment.SegmentSpec.{SegmentSpec}
 use Rattle.vx_data.specs.Layout.{LayoutTree, node}
 use Rattle.vx_data.specs.Paths.{Path, path_cmp}
-use Rattle.vx_footer.specs.FieldSizes.{Reference, is_prefix, counts, size_from, size_of, size_at, SizeList, AreSizes, paths_of, references_of, named_segments}
+use Rattle.vx_footer.specs.FieldSizes.{Reference, is_prefix, counts, size_from, size_of, size_at, AreSizes, paths_of, references_of, named_segments}
+use Rattle.vx_footer.specs.Gathering.{has_path}
 use Rattle.vx_footer.specs.CommonPaths.{common_length, narrowed, commons_after, is_within, length_within}
 
 -- ---- truth values
@@ -171,23 +171,25 @@ root_there : (t : LayoutTree) → list_any (is_at (path_cmp [])) (paths_of [] t)
 root_there (node k d n s ts) = refl
 
 pub sizes_are : (t : LayoutTree) (ss named : List SegmentSpec) (paths : List Path) (refs : List Reference) (commons : List (Option Path)) (start : Path → Option ℕ) (entries : List (Path × ℕ)) (total : ℕ)
-    → paths ≡ paths_of [] t → refs ≡ references_of [] t → named ≡ take (min (length ss) (2 ^ 32)) ss → commons ≡ commons_after (replicate (length named) None) refs
-    → ((q : Path) → start q ≡ (if list_any (is_at (path_cmp q)) paths then Some 0 else None))
+    → ((q : Path) → has_path paths q ≡ has_path (paths_of [] t) q) → refs ≡ references_of [] t → named ≡ named_segments ss → commons ≡ commons_after (replicate (length named) None) refs
+    → ((q : Path) → start q ≡ (if has_path paths q then Some 0 else None))
     → ((q : Path) → size_at entries q ≡ option_map (λ size. size + length_within q commons named) (start q))
     → IsStrictlySortedBy path_cmp (keys_of entries) → total ≡ unwrap_or (size_at entries []) 0
     → AreSizes t ss (record { entries = entries; total = total })
 unfolding size_of
-sizes_are t ss named paths refs commons start entries total paths_is refs_is named_is commons_is start_is entries_are ordered total_is =
-    let same_named : named ≡ named_segments ss = named_is ∙ take_min (2 ^ 32) ss in
+sizes_are t ss named paths refs commons start entries total paths_are refs_is same_named commons_is start_is entries_are ordered total_is =
     let size_is : (q : Path) → length_within q commons named ≡ size_of t ss q = λ q.
     ap (λ (cs : List (Option Path)). length_within q cs named) commons_is ∙ length_is refs q named
     ∙ ap₂ (λ (rs : List Reference) (xs : List SegmentSpec). size_from rs q 0 xs) refs_is same_named in
-    let by : (q : Path) → size_at entries q ≡ (if list_any (is_at (path_cmp q)) (paths_of [] t) then Some (size_of t ss q) else None) = λ q.
+    let by : (q : Path) → size_at entries q ≡ (if has_path (paths_of [] t) q then Some (size_of t ss q) else None) = λ q.
     entries_are q ∙ ap (λ (o : Option ℕ). option_map (λ size. size + length_within q commons named) o) (start_is q)
-    ∙ entry_case (list_any (is_at (path_cmp q)) paths) _ _ (size_is q)
-    ∙ ap (λ (xs : List Path). if list_any (is_at (path_cmp q)) xs then Some (size_of t ss q) else None) paths_is in
+    ∙ entry_case (has_path paths q) _ _ (size_is q)
+    ∙ ap (λ (there : Bool). if there then Some (size_of t ss q) else None) (paths_are q) in
     record {
       by_path = by;
       ordered = ordered;
       whole = total_is ∙ ap (λ (o : Option ℕ). unwrap_or o 0) (by []) ∙ ap (λ (b : Bool). unwrap_or (if b then Some (size_of t ss []) else None) 0) (root_there t);
     }
+
+pub named_are : (ss named : List SegmentSpec) (n : ℕ) → n ≡ min (length ss) (2 ^ 32) → named ≡ take n ss → named ≡ named_segments ss
+named_are ss named n n_is is = is ∙ ap (λ (k : ℕ). take k ss) n_is ∙ take_min (2 ^ 32) ss

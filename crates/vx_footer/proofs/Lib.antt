@@ -10,7 +10,8 @@ pub mod Vectors
 pub mod Seen
 pub mod VisitSteps
 pub mod CommonSteps
-pub mod SizeSteps
+pub mod PathTableSteps
+pub mod GatherSteps
 pub mod PathLemmas
 pub mod CountLemmas
 pub mod TotalLemmas

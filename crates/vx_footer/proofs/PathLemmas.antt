@@ -1,16 +1,11 @@
 -- Paths that are one, paths that go on from others, and sums of what counts for them.
-use Rattle.std.proofs.Common.{◌≡◌, ℕ, zero, suc, ◌+◌, ◌-◌, ◌<◌, ◌≤◌, Bool, true, false, List, [], ◌∷◌, ◌++◌, length, get_or, take, drop, map, Option, Some, None, refl, ap, ap₂, sym, subst, ◌∙◌, arith, add-one, drop-cons, inl, inr, ◌⊎◌}
-use Rattle.std.specs.Prelude.{◌==◌, ◌*◌, ◌^◌, ◌&&◌, ◌||◌, not, nat_lt, nat_le, slice_set, if◌then◌else◌, IfSome, replicate, is_some, cond, IsSome}
+use Rattle.std.proofs.Common.{◌≡◌, ℕ, zero, suc, ◌+◌, ◌-◌, ◌<◌, ◌≤◌, Bool, true, false, List, [], ◌∷◌, ◌++◌, length, get_or, take, drop, Option, Some, None, refl, ap, ap₂, sym, subst, ◌∙◌, arith, add-one, drop-cons}
+use Rattle.std.specs.Prelude.{◌*◌, ◌^◌, ◌&&◌, ◌||◌, nat_lt, nat_le, if◌then◌else◌, IfSome, is_some, cond, IsSome}
 use Rattle.std.specs.Str.{bytes_eq}
-use Rattle.std.specs.List.{list_any, list_all}
+use Rattle.std.specs.List.{list_any}
 use Rattle.std.specs.Option.{option_map, option_or}
 use Rattle.std.specs.BTreeMap.{is_at}
-use Rattle.std.specs.Ordering.{nat_cmp, eq_by_cmp, is_eq}
-use Rattle.std.specs.declared.cmp.Ordering.{Ordering}
-use Rattle.std.specs.declared.cmp.Ordering.TheVariants.{Less, Equal, Greater}
-use Rattle.std.specs.Cmp.Lexicographic.{pointwise, slice_cmp}
 use Rattle.std.proofs.lemmas.Bool.Decides.{nat_tests}
-use Rattle.std.proofs.lemmas.Bool.{cases_lt}
 use Rattle.std.proofs.lemmas.List.{drop_all, take_more}
 use Rattle.std.proofs.lemmas.List.Folds.{list_any-append}
 use Rattle.std.proofs.lemmas.Slice.Eq.{bytes_eq-Decides}
@@ -335,29 +330,6 @@ next_path paths i path q now new lt is is_now is_new =
     is_new ∙ ap₂ (λ (o : Option ℕ) (b : Bool). option_or o (if b then Some 0 else None)) is_now swap
     ∙ any_case (list_any (is_at (path_cmp q)) (take i paths)) (is_at (path_cmp q) path)
     ∙ ap (λ (b : Bool). if b then Some 0 else None) (sym any)
-
-twice : (a b : Bool) → ((a || (b || false)) || (b || false)) ≡ (a || (b || false))
-twice true b = refl
-twice false true = refl
-twice false false = refl
-
--- a path that comes again
-pub again_path : (paths : List Path) (i : ℕ) (q : Path) (now : Option ℕ) → 1 ≤ i → i < length paths → get_or paths (i - 1) [] ≡ get_or paths i []
-    → now ≡ (if list_any (is_at (path_cmp q)) (take i paths) then Some 0 else None)
-    → now ≡ (if list_any (is_at (path_cmp q)) (take (i + 1) paths) then Some 0 else None)
-again_path paths i q now some lt same is_now =
-    let x = get_or paths i [] in
-    let step : i ≡ i - 1 + 1 = omega (arith, some) in
-    let one : take i paths ≡ take (i - 1) paths ++ x ∷ [] =
-    ap (λ (k : ℕ). take k paths) step ∙ take_more paths (i - 1) [] (omega (arith, lt)) ∙ ap (λ (y : Path). take (i - 1) paths ++ y ∷ []) same in
-    let two : take (i + 1) paths ≡ take i paths ++ x ∷ [] = take_more paths i [] lt in
-    let any_one : list_any (is_at (path_cmp q)) (take i paths) ≡ (list_any (is_at (path_cmp q)) (take (i - 1) paths) || (is_at (path_cmp q) x || false))
-    = ap (λ (xs : List Path). list_any (is_at (path_cmp q)) xs) one ∙ list_any-append (is_at (path_cmp q)) (take (i - 1) paths) (x ∷ []) in
-    let any_two : list_any (is_at (path_cmp q)) (take (i + 1) paths) ≡ (list_any (is_at (path_cmp q)) (take i paths) || (is_at (path_cmp q) x || false))
-    = ap (λ (xs : List Path). list_any (is_at (path_cmp q)) xs) two ∙ list_any-append (is_at (path_cmp q)) (take i paths) (x ∷ []) in
-    let all : list_any (is_at (path_cmp q)) (take (i + 1) paths) ≡ list_any (is_at (path_cmp q)) (take i paths) =
-    any_two ∙ ap (λ (b : Bool). b || (is_at (path_cmp q) x || false)) any_one ∙ twice (list_any (is_at (path_cmp q)) (take (i - 1) paths)) (is_at (path_cmp q) x) ∙ sym any_one in
-    is_now ∙ ap (λ (b : Bool). if b then Some 0 else None) (sym all)
 
 pub all_paths : (paths : List Path) (n : ℕ) (q : Path) (o : Option ℕ) → length paths ≤ n → o ≡ (if list_any (is_at (path_cmp q)) (take n paths) then Some 0 else None)
     → o ≡ (if list_any (is_at (path_cmp q)) paths then Some 0 else None)

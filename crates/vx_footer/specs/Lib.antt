@@ -16,3 +16,5 @@ pub mod Serializing
 pub mod Serializers
 pub mod WriteErrors
 pub mod ReadAgain
+pub mod Gathering
+pub mod PathTables

@@ -200,8 +200,8 @@ impl FooterDeserializer {
         ensures ok { OnOk result (self.new ≡ record self.old { buffer = record self.old.buffer { bytes = more_data.bytes ++ self.old.buffer.bytes } }) }
         ensures err { OnErr result (self.new ≡ self.old) }
     {
-        let bytes = joined(alloc, &more_data, &self.held)?;
-        self.held = ByteBuffer::from_vec(alloc, bytes, self.held.alignment())?;
+        let bytes = more_data.extended(alloc, self.held.as_slice())?;
+        self.held = bytes.aligned(self.held.alignment());
         Ok(())
     }
 
@@ -217,15 +217,4 @@ impl FooterDeserializer {
     {
         step_from(alloc, &self.supplied, self.file_size, self.held.as_slice())
     }
-}
-
-/// The bytes of one buffer and of another behind it.
-fn joined(alloc: Global, front: &ByteBuffer, behind: &ByteBuffer) -> Result<Vec<u8>, AllocError>
-    ensures { IfOk result (λ bytes. bytes.items ≡ front.now.bytes ++ behind.now.bytes) }
-{
-    let size = front.len().saturating_add(behind.len());
-    let mut bytes = Vec::with_capacity(alloc, size)?;
-    bytes.extend_from_slice(front.as_slice())?;
-    bytes.extend_from_slice(behind.as_slice())?;
-    Ok(bytes)
 }

@@ -1,12 +1,11 @@
 //! Reads the footer's table, as it stands.
-ghost use Rattle.std.specs.Prelude.{◌≡◌, ◌≤◌, ◌*◌, IfOk, drop, length, map, string_bytes};
-ghost use Rattle.vx_tables.specs.Field.{element_bytes};
+ghost use Rattle.std.specs.Prelude.{◌≡◌, ◌≤◌, drop, length, map, string_bytes};
 ghost use Rattle.vx_tables.specs.Counted.{within, allowed};
 ghost use Rattle.vx_tables.specs.Walking.{Walks, Reads};
-ghost use Rattle.vx_footer.specs.Tables.{spec_in, specs_of, specs_in, segment_struct, segment_structs, footer_in, footer_table};
+ghost use Rattle.vx_footer.specs.Tables.{spec_in, specs_of, specs_in, segment_struct, footer_in, footer_table};
 
 use crate::rows::{FooterRow, Locator};
-use std::alloc::{AllocError, Global};
+use std::alloc::Global;
 use vx_tables::{Elements, TableReader, VectorReader, Visits, WalkError};
 
 /// The id that a spec names.
@@ -78,7 +77,7 @@ fn locator_of(cells: &[u8]) -> Locator
 }
 
 /// The first segment, and the bytes behind it.
-fn split_locator(cells: &[u8]) -> (Locator, &[u8])
+pub(crate) fn split_locator(cells: &[u8]) -> (Locator, &[u8])
     requires { 16 ≤ length cells.now }
     ensures locator { result.0 ≡ segment_struct cells.now }
     ensures rest { result.1.now ≡ drop 16 cells.now }
@@ -87,55 +86,29 @@ fn split_locator(cells: &[u8]) -> (Locator, &[u8])
     (locator_of(cells), rest)
 }
 
-/// So many segments.
-fn locators_of(alloc: Global, cells: &[u8], count: usize) -> Result<Vec<Locator>, AllocError>
-    requires { count * 16 ≤ length cells.now }
-    ensures { IfOk result (λ locators. locators.items ≡ segment_structs count cells.now) }
-{
-    let mut locators = Vec::with_capacity(alloc, count)?;
-    let mut rest = cells;
-    for at in 0..count {
-        let (locator, behind) = split_locator(rest);
-        locators.push(locator)?;
-        rest = behind;
-    }
-    Ok(locators)
-}
-
-/// The segments of a vector.
-fn read_locators(alloc: Global, vector: &VectorReader<'_>) -> Result<Vec<Locator>, AllocError>
-    requires kind { vector.now.elements ≡ Elements.Segments }
-    requires whole { vector.now.vector.count * 16 ≤ length (element_bytes vector.now.bytes vector.now.vector Elements.Segments) }
-    ensures { IfOk result (λ locators. locators.items ≡ segment_structs vector.now.vector.count
-        (element_bytes vector.now.bytes vector.now.vector Elements.Segments)) }
-{
-    locators_of(alloc, vector.as_bytes(), vector.len())
-}
-
 #[tactic(auto, using(vx_tables::proofs::Walk::seen_steps, crate::proofs::Vectors::segments_fit), unfolding(crate::specs::Tables::footer_in, crate::specs::Tables::segments_in))]
-fn read_in(
+fn read_in<'a>(
     alloc: Global,
-    table: &TableReader<'_>,
+    table: &TableReader<'a>,
     visits: &mut Visits,
-) -> Result<FooterRow, WalkError>
+) -> Result<FooterRow<'a>, WalkError>
     ensures { Walks (λ f. f) result visits.new (within table.now.levels visits.old (footer_in table.now.bytes table.now.table)) }
 {
     let array_ids = read_ids(alloc, table, 0, visits)?;
     let layout_ids = read_ids(alloc, table, 1, visits)?;
-    let Some(segments) = table.field_vector(2, Elements::Segments, visits)? else {
+    let Some(places) = table.field_vector(2, Elements::Segments, visits)? else {
         return Err(WalkError::BadTable);
     };
-    let locators = read_locators(alloc, &segments)?;
     Ok(FooterRow {
         array_ids,
         layout_ids,
-        locators,
+        places,
     })
 }
 
 /// The footer's table that a root spells.
 #[tactic(auto, using(vx_tables::proofs::Walk::seen_steps), unfolding(crate::specs::Tables::footer_table, vx_tables::specs::Counted::allowed))]
-pub(crate) fn read_footer(alloc: Global, bytes: &[u8]) -> Result<FooterRow, WalkError>
+pub(crate) fn read_footer(alloc: Global, bytes: &[u8]) -> Result<FooterRow<'_>, WalkError>
     ensures { Reads (λ f. f) result (allowed (footer_table bytes.now)) }
 {
     let mut visits = Visits::new();

@@ -1,14 +1,15 @@
 //! Reads the footer of a file from its tail, and writes it.
 #![tactic(auto)]
 
-mod common_paths;
 mod deserializer;
 mod error;
 mod field_sizes;
 mod footer;
 mod footer_table;
+mod gathered;
 mod marker;
 mod metadata_values;
+mod path_table;
 mod placing;
 mod postscript;
 mod postscript_table;
@@ -19,7 +20,6 @@ mod serialize_error;
 mod serializer;
 mod serializer_tables;
 mod serializing;
-mod shared_path;
 mod sharing;
 mod size_laws;
 mod sizes;

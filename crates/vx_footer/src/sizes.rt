@@ -1,19 +1,21 @@
 //! How many bytes each field of a file takes.
-ghost use Rattle.std.specs.Prelude.{◌≡◌, ℕ, ◌+◌, ◌-◌, ◌*◌, ◌<◌, ◌≤◌, ◌^◌, nat_le, [], true, OnOk, IfOk, IfSome, length, map, take, drop, find, slice_index_or, if◌then◌else◌, unwrap_or, Some, None};
+ghost use Rattle.std.specs.Prelude.{◌≡◌, ℕ, List, ◌+◌, ◌-◌, ◌*◌, ◌<◌, ◌≤◌, ◌^◌, [], OnOk, IfOk, IfSome, length, drop, slice_index_or, if◌then◌else◌, unwrap_or, replicate, Some, None};
 ghost use Rattle.std.specs.List.{list_any};
 ghost use Rattle.std.specs.Option.{option_map, option_or};
 ghost use Rattle.std.specs.BTreeMap.{is_at};
+ghost use Rattle.vx_base.specs.declared.segment.SegmentSpec.{SegmentSpec as Spec};
 ghost use Rattle.vx_data.specs.Paths.{Path, path_cmp};
 ghost use Rattle.vx_data.specs.Layout.{LayoutTree};
-ghost use Rattle.vx_footer.specs.FieldSizes.{AreSizes, SizesGiven, is_prefix, size_at, paths_of, references_of};
-ghost use Rattle.vx_footer.specs.CommonPaths.{is_within, length_within};
+ghost use Rattle.vx_footer.specs.FieldSizes.{AreSizes, SizesGiven, is_prefix, size_at, paths_of, references_of, named_segments};
+ghost use Rattle.vx_footer.specs.CommonPaths.{is_within, length_within, commons_after};
+ghost use Rattle.vx_footer.specs.Gathering.{has_path};
 
 use crate::Footer;
-use crate::common_paths::common_paths;
 use crate::field_sizes::FieldSizes;
-use crate::shared_path::SharedPath;
+use crate::gathered::Gathered;
+use crate::path_table::{PathTable, copy_of};
 use crate::sizes_error::SizesError;
-use crate::visits::{Mention, Visits, visits_of};
+use crate::visits::gathered_of;
 use std::alloc::{AllocError, Global};
 use std::collections::BTreeMap;
 use std::marker::Model;
@@ -39,72 +41,29 @@ impl Model for CompressedFieldSizes {
     ghost view = { λ s. record { entries = s.sizes.entries; total = s.whole } };
 }
 
-/// The first number that is not below a count.
-#[tactic(auto, using(crate::proofs::SizeSteps::find_steps))]
-fn first_missing(mentions: &[Mention], count: usize) -> Option<SegmentId>
-    ensures { option_map (λ id. id.0) result ≡ find (λ id. nat_le count id) (map (λ r. r.segment) mentions.now) }
-{
-    for mention in mentions {
-        let segment = mention.segment();
-        if segment.0 as usize >= count {
-            return Some(segment);
-        }
-    }
-    None
-}
-
-/// Adds a path that is not there, with 0 bytes.
+/// Adds a path, if it is not there, with 0 bytes.
 fn add_path(
     alloc: Global,
     sizes: &mut BTreeMap<FieldPath, u64>,
-    path: &SharedPath,
+    path: &FieldPath,
 ) -> Result<(), AllocError>
     ensures { OnOk result ((q : Path) → size_at sizes.new.entries q
         ≡ option_or (size_at sizes.old.entries q) (if is_at (path_cmp path.now) q then Some 0 else None)) }
 {
-    if sizes.contains_key(path.path()) {
+    if sizes.contains_key(path) {
         return Ok(());
     }
-    sizes.insert(path.copy(alloc)?, 0)?;
-    Ok(())
-}
-
-/// Whether a path stands behind the same one, as those of chunks do.
-#[tactic(auto, using(crate::proofs::PathLemmas::path_is))]
-fn comes_again(paths: &[SharedPath], at: usize) -> bool
-    requires { at < length paths.now }
-    ensures { result ≡ true → (1 ≤ at) × (slice_index_or paths.now (at - 1) [] ≡ slice_index_or paths.now at []) }
-{
-    at > 0 && paths[at - 1].path() == paths[at].path()
-}
-
-/// Adds the path at a place behind those before it, with 0 bytes where it is not there. Paths that come again are not
-/// looked up.
-fn add_next(
-    alloc: Global,
-    sizes: &mut BTreeMap<FieldPath, u64>,
-    paths: &[SharedPath],
-    at: usize,
-) -> Result<(), AllocError>
-    requires inside { at < length paths.now }
-    requires before { (q : Path) → size_at sizes.old.entries q ≡ (if list_any (is_at (path_cmp q)) (take at paths.now) then Some 0 else None) }
-    ensures { OnOk result ((q : Path) → size_at sizes.new.entries q
-        ≡ (if list_any (is_at (path_cmp q)) (take (at + 1) paths.now) then Some 0 else None)) }
-{
-    if comes_again(paths, at) {
-        return Ok(());
-    }
-    add_path(alloc, sizes, &paths[at])?;
+    sizes.insert(copy_of(alloc, path)?, 0)?;
     Ok(())
 }
 
 /// Each of these paths, with 0 bytes.
-fn no_sizes(alloc: Global, paths: &[SharedPath]) -> Result<BTreeMap<FieldPath, u64>, AllocError>
-    ensures { IfOk result (λ sizes. (q : Path) → size_at sizes.entries q ≡ (if list_any (is_at (path_cmp q)) paths.now then Some 0 else None)) }
+fn no_sizes(alloc: Global, table: &PathTable) -> Result<BTreeMap<FieldPath, u64>, AllocError>
+    ensures { IfOk result (λ sizes. (q : Path) → size_at sizes.entries q ≡ (if has_path table.now q then Some 0 else None)) }
 {
     let mut sizes = BTreeMap::new(alloc);
-    for at in 0..paths.len() {
-        add_next(alloc, &mut sizes, paths, at)?;
+    for number in 0..table.len() {
+        add_path(alloc, &mut sizes, table.path(number))?;
     }
     Ok(sizes)
 }
@@ -141,33 +100,21 @@ fn add_along(sizes: &mut BTreeMap<FieldPath, u64>, path: FieldPath, bytes: u64, 
 fn add_length(
     alloc: Global,
     sizes: &mut BTreeMap<FieldPath, u64>,
-    common: &Option<SharedPath>,
+    common: Option<&FieldPath>,
     bytes: u64,
     most: u64,
 ) -> Result<(), AllocError>
     requires room { most + bytes < 2 ^ 64 }
     requires low { (q : Path) → IfSome (size_at sizes.old.entries q) (λ size. size ≤ most) }
     ensures { OnOk result ((q : Path) → size_at sizes.new.entries q
-        ≡ option_map (λ size. size + (if is_within q common.now then bytes else 0)) (size_at sizes.old.entries q)) }
+        ≡ option_map (λ size. size + (if is_within q (option_map (λ path. path.now) common.entry) then bytes else 0)) (size_at sizes.old.entries q)) }
 {
     match common {
         Some(common) => {
-            add_along(sizes, common.copy(alloc)?, bytes, most);
+            add_along(sizes, copy_of(alloc, common)?, bytes, most);
             Ok(())
         }
         None => Ok(()),
-    }
-}
-
-/// Whether two segments have the same common path, or none.
-#[tactic(auto, using(crate::proofs::PathLemmas::path_is))]
-fn are_same(left: &Option<SharedPath>, right: &Option<SharedPath>) -> bool
-    ensures { result ≡ true → left.now ≡ right.now }
-{
-    match (left, right) {
-        (Some(left), Some(right)) => left.path() == right.path(),
-        (None, None) => true,
-        _ => false,
     }
 }
 
@@ -179,20 +126,20 @@ struct Run {
 }
 
 /// The segments from one on that have its common path.
-fn run_from(commons: &[Option<SharedPath>], segments: &[SegmentSpec], from: usize) -> Run
-    requires count { length commons.now ≡ length segments.now }
+fn run_from(gathered: &Gathered, segments: &[SegmentSpec], from: usize) -> Run
+    requires count { length gathered.now.commons ≡ length segments.now }
     requires room { length segments.now ≤ 2 ^ 32 }
     requires inside { from < length segments.now }
     ensures further { from < result.end }
     ensures within { result.end ≤ length segments.now }
     ensures few { result.bytes ≤ (result.end - from) * 4294967295 }
-    ensures sum { (q : Path) → length_within q (drop from commons.now) (drop from segments.now)
-        ≡ (if is_within q (slice_index_or commons.now from None) then result.bytes else 0)
-        + length_within q (drop result.end commons.now) (drop result.end segments.now) }
+    ensures sum { (q : Path) → length_within q (drop from gathered.now.commons) (drop from segments.now)
+        ≡ (if is_within q (slice_index_or gathered.now.commons from None) then result.bytes else 0)
+        + length_within q (drop result.end gathered.now.commons) (drop result.end segments.now) }
 {
     let mut end = from + 1;
     let mut bytes = u64::from(segments[from].length);
-    while end < segments.len() && are_same(&commons[from], &commons[end]) {
+    while end < segments.len() && gathered.are_same(from, end) {
         bytes += u64::from(segments[end].length);
         end += 1;
     }
@@ -203,20 +150,20 @@ fn run_from(commons: &[Option<SharedPath>], segments: &[SegmentSpec], from: usiz
 fn add_lengths(
     alloc: Global,
     sizes: &mut BTreeMap<FieldPath, u64>,
-    commons: &[Option<SharedPath>],
+    gathered: &Gathered,
     segments: &[SegmentSpec],
 ) -> Result<(), AllocError>
-    requires count { length commons.now ≡ length segments.now }
+    requires count { length gathered.now.commons ≡ length segments.now }
     requires room { length segments.now ≤ 2 ^ 32 }
     requires low { (q : Path) → IfSome (size_at sizes.old.entries q) (λ size. size ≡ 0) }
     ensures { OnOk result ((q : Path) → size_at sizes.new.entries q
-        ≡ option_map (λ size. size + length_within q commons.now segments.now) (size_at sizes.old.entries q)) }
+        ≡ option_map (λ size. size + length_within q gathered.now.commons segments.now) (size_at sizes.old.entries q)) }
 {
     let mut id = 0;
     while id < segments.len() {
         let most = id as u64 * u64::from(u32::MAX);
-        let run = run_from(commons, segments, id);
-        add_length(alloc, sizes, &commons[id], run.bytes, most)?;
+        let run = run_from(gathered, segments, id);
+        add_length(alloc, sizes, gathered.common(id), run.bytes, most)?;
         id = run.end;
     }
     Ok(())
@@ -230,19 +177,20 @@ fn total_of(alloc: Global, sizes: &BTreeMap<FieldPath, u64>) -> u64
     sizes.get(&root).copied().unwrap_or(0)
 }
 
-/// The sizes of what a walk met.
+/// The sizes of what a walk gathered, of the segments that have a number.
 fn sizes_of(
     alloc: Global,
-    visits: &Visits,
-    segments: &[SegmentSpec],
+    gathered: &Gathered,
+    named: &[SegmentSpec],
 ) -> Result<CompressedFieldSizes, AllocError>
-    ensures { IfOk result (λ sizes. (t : LayoutTree) → visits.now.paths.items ≡ paths_of [] t → visits.now.mentions.items ≡ references_of [] t
-        → AreSizes t segments.now sizes) }
+    requires count { length gathered.now.commons ≡ length named.now }
+    requires room { length named.now ≤ 2 ^ 32 }
+    ensures { IfOk result (λ sizes. (t : LayoutTree) (ss : List Spec) → ((q : Path) → has_path gathered.now.paths q ≡ has_path (paths_of [] t) q)
+        → named.now ≡ named_segments ss → gathered.now.commons ≡ commons_after (replicate (length named.now) None) (references_of [] t)
+        → AreSizes t ss sizes) }
 {
-    let named = &segments[..segments.len().min(MOST_NAMED)];
-    let commons = common_paths(alloc, &visits.mentions, named.len())?;
-    let mut sizes = no_sizes(alloc, &visits.paths)?;
-    add_lengths(alloc, &mut sizes, &commons, named)?;
+    let mut sizes = no_sizes(alloc, gathered.table())?;
+    add_lengths(alloc, &mut sizes, gathered, named)?;
     let whole = total_of(alloc, &sizes);
     let count = sizes.len();
     prove!(count < usize::MAX);
@@ -280,11 +228,12 @@ impl Footer {
     pub fn compressed_field_sizes(&self, alloc: Global) -> Result<CompressedFieldSizes, SizesError>
         ensures { SizesGiven self.now.content.layout self.now.content.segments result }
     {
-        let visits = visits_of(alloc, self.layout())?;
         let segments = self.segment_map();
-        if let Some(id) = first_missing(&visits.mentions, segments.len()) {
+        let named = &segments[..segments.len().min(MOST_NAMED)];
+        let gathered = gathered_of(alloc, self.layout(), segments.len(), named.len())?;
+        if let Some(id) = gathered.missing() {
             return Err(SizesError::MissingSegment(id));
         }
-        Ok(sizes_of(alloc, &visits, segments)?)
+        Ok(sizes_of(alloc, &gathered, named)?)
     }
 }

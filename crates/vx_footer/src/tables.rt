@@ -1,5 +1,5 @@
 //! The checks on the tables of a file, which give its footer.
-ghost use Rattle.std.specs.Prelude.{◌≡◌, ◌+◌, ◌<◌, ◌^◌, ◌==◌, ◌%◌, ℕ, IfOk, length, map, string_bytes, Some, None};
+ghost use Rattle.std.specs.Prelude.{◌≡◌, ◌+◌, ◌<◌, ◌^◌, ◌==◌, ◌%◌, ◌*◌, ◌≤◌, ℕ, IfOk, length, map, string_bytes, Some, None};
 ghost use Rattle.std.specs.List.{list_all};
 ghost use Rattle.std.specs.Option.{option_map};
 ghost use Rattle.vx_base.specs.Checks.{Gives};
@@ -9,9 +9,10 @@ ghost use Rattle.vx_data.specs.LayoutTable.{layout_checks};
 ghost use Rattle.vx_footer.specs.declared.error.Which.TheVariants as which;
 ghost use Rattle.vx_footer.specs.Opening.{of_table, is_plain, is_placed as is_placed_entry, aligned_spec as aligned_spec_of, aligned_specs, rise_from, are_ordered as have_order, segments_checks, dtype_found, statistics_found, content_checks, table_checks, Fails};
 ghost use Rattle.vx_footer.specs.Steps.{seen_bytes};
+ghost use Rattle.vx_footer.specs.Tables.{segment_structs};
 
 use crate::error::refusal;
-use crate::footer_table::read_footer;
+use crate::footer_table::{read_footer, split_locator};
 use crate::rows::Locator;
 use crate::{
     FileStatistics, FileVersion, Footer, OpenError, Postscript, PostscriptMetadata,
@@ -107,10 +108,21 @@ fn are_placed(entries: &[PostscriptMetadata]) -> bool
     entries.iter().all(|entry| is_placed(entry))
 }
 
-fn are_plain(locators: &[Locator]) -> bool
-    ensures { result ≡ list_all is_plain locators.now }
+/// Whether so many segments name neither compression nor encryption.
+#[tactic(auto, using(crate::proofs::Specs::plain_steps))]
+fn are_plain(cells: &[u8], count: usize) -> bool
+    requires { count * 16 ≤ length cells.now }
+    ensures { result ≡ list_all is_plain (segment_structs count cells.now) }
 {
-    locators.iter().all(|locator| locator.is_plain())
+    let mut rest = cells;
+    for at in 0..count {
+        let (locator, behind) = split_locator(rest);
+        if !locator.is_plain() {
+            return false;
+        }
+        rest = behind;
+    }
+    true
 }
 
 fn aligned_spec(locator: &Locator) -> Option<SegmentSpec>
@@ -126,17 +138,25 @@ fn aligned_spec(locator: &Locator) -> Option<SegmentSpec>
     }
 }
 
-/// The segments, where all of their alignments are ones.
-#[tactic(auto, using(crate::proofs::Specs::specs_none, crate::proofs::Specs::next_aligned))]
-fn specs_of(alloc: Global, locators: &[Locator]) -> Result<Option<Vec<SegmentSpec>>, AllocError>
-    ensures { IfOk result (λ specs. option_map (λ v. v.items) specs ≡ aligned_specs locators.now) }
+/// So many segments, where all of their alignments are ones.
+#[tactic(auto, using(crate::proofs::Specs::aligned_steps))]
+fn specs_of(
+    alloc: Global,
+    cells: &[u8],
+    count: usize,
+) -> Result<Option<Vec<SegmentSpec>>, AllocError>
+    requires { count * 16 ≤ length cells.now }
+    ensures { IfOk result (λ specs. option_map (λ v. v.items) specs ≡ aligned_specs (segment_structs count cells.now)) }
 {
-    let mut specs = Vec::with_capacity(alloc, locators.len())?;
-    for at in 0..locators.len() {
-        let Some(spec) = aligned_spec(&locators[at]) else {
+    let mut specs = Vec::with_capacity(alloc, count)?;
+    let mut rest = cells;
+    for at in 0..count {
+        let (locator, behind) = split_locator(rest);
+        let Some(spec) = aligned_spec(&locator) else {
             return Ok(None);
         };
         specs.push(spec)?;
+        rest = behind;
     }
     Ok(Some(specs))
 }
@@ -159,10 +179,11 @@ fn are_ordered(specs: &[SegmentSpec]) -> bool
 
 /// The data segments, by their alignments and then their order.
 #[tactic(auto, unfolding(crate::specs::Opening::segments_checks))]
-fn segments_of(alloc: Global, locators: &[Locator]) -> Result<Vec<SegmentSpec>, OpenError>
-    ensures { Gives Fails (λ specs. specs.items) result (segments_checks locators.now) }
+fn segments_of(alloc: Global, cells: &[u8], count: usize) -> Result<Vec<SegmentSpec>, OpenError>
+    requires { count * 16 ≤ length cells.now }
+    ensures { Gives Fails (λ specs. specs.items) result (segments_checks (segment_structs count cells.now)) }
 {
-    let Some(specs) = specs_of(alloc, locators)? else {
+    let Some(specs) = specs_of(alloc, cells, count)? else {
         return Err(OpenError::BadAlignment);
     };
     if !are_ordered(&specs) {
@@ -204,11 +225,11 @@ fn footer_in(
         Err(WalkError::BadTable) => return Err(OpenError::BadTable(Which::Footer)),
         Err(WalkError::OutOfMemory) => return Err(OpenError::OutOfMemory),
     };
-    if !are_plain(&row.locators) {
+    if !are_plain(row.places.as_bytes(), row.places.len()) {
         return Err(OpenError::Unsupported);
     }
     let layout = layout_of(alloc, layout_bytes, dtype, &row.layout_ids)?;
-    let segments = segments_of(alloc, &row.locators)?;
+    let segments = segments_of(alloc, row.places.as_bytes(), row.places.len())?;
     let footer = Footer::made(
         alloc,
         version,

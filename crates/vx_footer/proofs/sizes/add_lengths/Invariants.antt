@@ -13,7 +13,7 @@ decreases-loop-id l = length l.segments - l.id
 abbrev pub invariant-loop-id : goal.invariant-loop-id
 invariant-loop-id l = record {
   inside : l.id ≤ length l.segments;
-  value : (q : Path) → option_map (λ size. size + length_within q (drop l.id l.commons) (drop l.id l.segments)) (size_at l.sizes.entries q)
-      ≡ option_map (λ size. size + length_within q l.commons l.segments) (size_at l.fn.sizes.entries q);
+  value : (q : Path) → option_map (λ size. size + length_within q (drop l.id l.gathered.commons) (drop l.id l.segments)) (size_at l.sizes.entries q)
+      ≡ option_map (λ size. size + length_within q l.gathered.commons l.segments) (size_at l.fn.sizes.entries q);
   low : (q : Path) → IfSome (size_at l.sizes.entries q) (λ size. size ≤ l.id * 4294967295);
 }

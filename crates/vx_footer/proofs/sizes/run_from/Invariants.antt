@@ -13,6 +13,6 @@ invariant-loop-end l = record {
   further : l.from < l.end;
   within : l.end ≤ length l.segments;
   few : l.bytes ≤ (l.end - l.from) * 4294967295;
-  sum : (q : Path) → length_within q (drop l.from l.commons) (drop l.from l.segments)
-      ≡ (if is_within q (slice_index_or l.commons l.from None) then l.bytes else 0) + length_within q (drop l.end l.commons) (drop l.end l.segments);
+  sum : (q : Path) → length_within q (drop l.from l.gathered.commons) (drop l.from l.segments)
+      ≡ (if is_within q (slice_index_or l.gathered.commons l.from None) then l.bytes else 0) + length_within q (drop l.end l.gathered.commons) (drop l.end l.segments);
 }

@@ -1,6 +1,6 @@
 use Rattle.std.proofs.Common.{◌≡◌, ◌++◌, drop, map}
 use Rattle.std.specs.Prelude.{string_bytes}
-use Rattle.vx_footer.proofs.shared_path.parts_of.Given as goal
+use Rattle.vx_footer.proofs.path_table.parts_of.Given as goal
 
 -- the names so far and those still to come
 abbrev pub invariant-loop-name : goal.invariant-loop-name

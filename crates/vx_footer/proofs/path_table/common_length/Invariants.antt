@@ -1,7 +1,7 @@
 use Rattle.std.proofs.Common.{◌≡◌, ◌+◌, map, min, length, drop}
 use Rattle.std.specs.Prelude.{string_bytes}
 use Rattle.vx_footer.specs.CommonPaths.{common_length}
-use Rattle.vx_footer.proofs.common_paths.common_length.Given as goal
+use Rattle.vx_footer.proofs.path_table.common_length.Given as goal
 
 -- the names so far and those still to come
 abbrev pub invariant-loop-at : goal.invariant-loop-at
