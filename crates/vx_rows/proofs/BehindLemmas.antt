@@ -1,12 +1,11 @@
 -- Texts whose bytes and places come behind those of others.
-use Rattle.std.proofs.Common.{◌≡◌, ℕ, zero, suc, ◌+◌, ◌-◌, ◌<◌, ◌≤◌, Bool, true, false, cond, List, ◌∷◌, ◌++◌, length, map, take, drop, Option, Some, None, is_some, refl, ap, sym, ◌∙◌, subst, arith, length-append, append-nil, append_assoc, [], sum_by, ◌⊎◌, inl, inr}
+use Rattle.std.proofs.Common.{◌≡◌, ℕ, zero, suc, ◌+◌, ◌-◌, ◌<◌, ◌≤◌, Bool, true, false, cond, List, ◌∷◌, ◌++◌, length, map, take, drop, Option, Some, None, is_some, refl, ap, sym, ◌∙◌, subst, arith, length-append, sum_by, ◌⊎◌, inl, inr}
 use Rattle.std.specs.Prelude.{slice_index, slice_index_or, slice_range}
 use Rattle.std.specs.Str.{IsUtf8}
 use Rattle.std.proofs.Math.Seq.{drop-append-add, take-add}
 use Rattle.std.specs.List.{flat_map}
 use Rattle.std.specs.Int.{w32, to_le_bytes}
 use Rattle.std.proofs.lemmas.List.Concat.{length-flat_map}
-use Rattle.std.proofs.lemmas.Grind.{flat_map-append}
 use Rattle.vx_rows.specs.Written.{text_bytes, length_bytes}
 use Rattle.std.proofs.lemmas.List.{get_or-append-add, get_or_append_left, get_or-map, length-drop, length-take-le, drop-drop}
 use Rattle.std.proofs.lemmas.Bool.{cases_lt}
@@ -15,7 +14,7 @@ use Rattle.vx_rows.specs.Bits.{present_at}
 use Rattle.vx_rows.specs.Columns.{Texts, Structs, text_row, AreRanges, AreTexts, may_hold}
 use Rattle.vx_rows.specs.Kept.{kept}
 use Rattle.vx_rows.specs.TextsBehind.{length_from, end_from, ComeBehind}
-use Rattle.vx_rows.proofs.SpanLemmas.{length_span, get_or_span, span_push, span_same}
+use Rattle.vx_rows.proofs.SpanLemmas.{length_span, get_or_span, span_same}
 use Rattle.vx_rows.proofs.CutLemmas.{span_moved}
 use Rattle.vx_rows.proofs.ColumnLaws.{part-of-part}
 use Rattle.vx_rows.proofs.MakingLemmas.{span_list, map_long}

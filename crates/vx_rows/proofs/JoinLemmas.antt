@@ -10,7 +10,7 @@ use Rattle.std.proofs.Math.Nat.{min-eq_left, min-eq_right, mul-le-mul_left}
 use Rattle.vx_data.specs.declared.ptype.PType.{PType}
 use Rattle.vx_rows.specs.Span.{span, every}
 use Rattle.vx_rows.specs.Bits.{present_at}
-use Rattle.vx_rows.specs.Columns.{Bools, Ints, Structs, bool_row, is_false_row, int_row, is_clear, raw_at, value_of, width, value_size, value_place, text_row, AreRanges, AreTexts, may_hold, are_there}
+use Rattle.vx_rows.specs.Columns.{Bools, Ints, Structs, bool_row, is_false_row, int_row, is_clear, raw_at, value_of, width, value_size, value_place, text_row, AreRanges, AreTexts, may_hold}
 use Rattle.vx_rows.specs.Rows.{AreWithin}
 use Rattle.vx_rows.specs.ReadRows.{more_bools}
 use Rattle.vx_rows.specs.Written.{is_within, cell}
@@ -127,26 +127,6 @@ take_upto n xs = by (cases_lt n (length xs))
 flag-before : (nullable : Bool) (flags : List Bool) (n i : ℕ) → i < n → present_at (cond nullable (Some (take n flags)) None) i ≡ present_at (cond nullable (Some flags) None) i
 flag-before true flags n i l = get_or-take n flags i true l
 flag-before false flags n i l = refl
-
-all-front : (flags : List Bool) (n : ℕ) → list_all (λ b. b) flags ≡ true → list_all (λ b. b) (take n flags) ≡ true
-all-front [] zero h = refl
-all-front [] (suc n) h = refl
-all-front (b ∷ flags) zero h = refl
-all-front (true ∷ flags) (suc n) h = all-front flags n h
-all-front (false ∷ flags) (suc n) h = cc
-
-pub there_front : (nullable : Bool) (flags : List Bool) (n : ℕ) → are_there nullable flags ≡ true → are_there nullable (take n flags) ≡ true
-there_front true flags n h = refl
-there_front false flags n h = all-front flags n h
-
-all-joined : (xs ys : List Bool) → list_all (λ b. b) xs ≡ true → list_all (λ b. b) ys ≡ true → list_all (λ b. b) (xs ++ ys) ≡ true
-all-joined [] ys h g = g
-all-joined (true ∷ xs) ys h g = all-joined xs ys h g
-all-joined (false ∷ xs) ys h g = cc
-
-pub there_joined : (nullable : Bool) (xs ys : List Bool) → are_there nullable xs ≡ true → are_there nullable ys ≡ true → are_there nullable (xs ++ ys) ≡ true
-there_joined true xs ys h g = refl
-there_joined false xs ys h g = all-joined xs ys h g
 
 module _ (nullable : Bool) (flags values : List Bool) (n : ℕ) (same : length flags ≡ length values) (l : n ≤ length values) where
   bool-before : (i : ℕ) → i < n → bool_row (cond nullable (Some (take n flags)) None) (take n values) i ≡ bool_row (cond nullable (Some flags) None) values i

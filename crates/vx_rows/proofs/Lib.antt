@@ -15,12 +15,15 @@ pub mod WrittenLemmas
 pub mod CopyLemmas
 pub mod ValueLemmas
 pub mod VerdictLemmas
+pub mod MeetingLemmas
+pub mod MaskLemmas
 pub mod TextRowLemmas
 pub mod BackLemmas
 pub mod TextBackLemmas
 pub mod TreeBackLemmas
 pub mod PrintedLemmas
 pub mod SoundLemmas
+pub mod FlagLemmas
 pub mod GrowingLemmas
 pub mod BuilderLemmas
 pub mod DigitLemmas

@@ -43,6 +43,9 @@ span_more front f k =
     let e : 0 + k ≡ k = omega arith in
     append_assoc front (span f 0 k) (f k ∷ []) ∙ ap (λ xs. front ++ xs) (ap (λ i. span f 0 k ++ f i ∷ []) (sym e) ∙ sym (span_push f 0 k))
 
+pub span_behind : {A : Type 0} → (front : List A) (f : ℕ → A) (first k : ℕ) → (front ++ span f first k) ++ f (first + k) ∷ [] ≡ front ++ span f first (k + 1)
+span_behind front f first k = append_assoc front (span f first k) (f (first + k) ∷ []) ∙ ap (λ xs. front ++ xs) (sym (span_push f first k))
+
 -- a test that holds at each place
 pub every_holds : (f : ℕ → Bool) (k n : ℕ) → ((i : ℕ) → k ≤ i → i < k + n → f i ≡ true) → every f k n ≡ true
 every_holds f k zero h = refl

@@ -1,6 +1,6 @@
 -- What contracts see of a column: its type and the value of each row, or none where it is null.
 use Rattle.std.specs.Prelude.{ℕ, ℤ, pos, ◌+◌, ◌*◌, ◌<◌, ◌≤◌, ◌==◌, Bool, true, false, ◌||◌, not, is_some}
-use Rattle.std.specs.Prelude.{if◌then◌else◌, List, map, length, take, drop, slice_index, slice_index_or, slice_range, Option, Some, None, String, string_bytes}
+use Rattle.std.specs.Prelude.{if◌then◌else◌, List, map, length, take, drop, slice_index, slice_index_or, slice_range, replicate, Option, Some, None, String, string_bytes}
 use Rattle.std.specs.Option.{option_map}
 use Rattle.std.specs.Global.{Global}
 use Rattle.std.specs.Str.{IsUtf8}
@@ -115,6 +115,11 @@ may_hold nullable values = nullable || list_all is_some values
 -- all structs are there, or they may be null
 abbrev pub are_there : Bool → List Bool → Bool
 are_there nullable present = nullable || list_all (λ b. b) present
+
+-- which rows are there: as flags say, or as many as were counted, where none may be null
+abbrev pub rows_there : Bool → ℕ → List Bool → List Bool
+rows_there true counted flags = flags
+rows_there false counted flags = replicate counted true
 
 -- texts as their bytes
 abbrev pub texts_of : List (Option (String Global)) → List (Option (List ℕ))

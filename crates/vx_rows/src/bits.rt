@@ -1,5 +1,5 @@
 //! Truth values in a bitmap.
-ghost use Rattle.std.specs.Prelude.{ℕ, slice_index, ◌≡◌, ◌++◌, ◌+◌, ◌-◌, ◌*◌, ◌<◌, ◌≤◌, ◌^◌, length, slice_index_or, slice_range, true, false, IfOk, OnOk};
+ghost use Rattle.std.specs.Prelude.{ℕ, slice_index, ◌≡◌, ◌++◌, ◌+◌, ◌-◌, ◌*◌, ◌<◌, ◌≤◌, ◌^◌, length, slice_index_or, slice_range, true, false, IfOk, OnOk, OnErr};
 ghost use Rattle.std.specs.List.{list_all};
 ghost use Rattle.vx_rows.specs.Span.{span, every};
 ghost use Rattle.vx_rows.specs.Bits.{bit, bit_value, bitmap_byte, bitmap_size, bitmap};
@@ -194,6 +194,20 @@ impl Bits {
             + 32 * self.bit_value(first + 5)
             + 64 * self.bit_value(first + 6)
             + 128 * self.bit_value(first + 7)
+    }
+
+    /// Adds the rows to other truth values. Only memory refuses, and then nothing changes.
+    #[tactic(auto, using(crate::proofs::SpanLemmas::span_behind))]
+    pub(crate) fn push_rows(&self, rows: &mut Vec<bool>) -> Result<(), AllocError>
+        ensures ok { OnOk result (rows.new.items ≡ rows.old.items ++ self.now) }
+        ensures err { OnErr result (rows.new.items ≡ rows.old.items) }
+    {
+        rows.reserve(self.count)?;
+        let bytes = self.held.as_slice();
+        for row in 0..self.count {
+            rows.push_reserved(bit_of(bytes, self.at, self.first + row));
+        }
+        Ok(())
     }
 
     /// Adds the bytes of the bitmap from one on, each of its eight rows.

@@ -73,6 +73,20 @@ impl Verdict {
         self.greater
     }
 
+    /// What is told of two integers of 64 bits.
+    #[inline(always)]
+    pub fn at_key(self, here: i64, literal: i64) -> bool
+        ensures { result ≡ by_order self (int_cmp here literal) }
+    {
+        if here < literal {
+            return self.less;
+        }
+        if here == literal {
+            return self.equal;
+        }
+        self.greater
+    }
+
     /// What is told of an integer, which may lack, and a literal.
     #[inline(always)]
     fn of_number(self, row: Option<i128>, literal: i128) -> Option<bool>
@@ -114,7 +128,7 @@ fn compare_plain_of(
     let mut truths = Vec::with_capacity(alloc, count)?;
     for row in 0..count {
         let here = plain_row(ptype, bytes, at, count, row);
-        truths.push(verdict.of_number(here, literal))?;
+        truths.push_reserved(verdict.of_number(here, literal));
     }
     Ok(truths)
 }
@@ -135,7 +149,7 @@ fn compare_nullable_of(
 {
     let mut truths = Vec::with_capacity(alloc, count)?;
     for row in 0..count {
-        truths.push(verdict.of_number(values.get_of(ptype, row), literal))?;
+        truths.push_reserved(verdict.of_number(values.get_of(ptype, row), literal));
     }
     Ok(truths)
 }
@@ -198,7 +212,7 @@ fn compare_texts(
 {
     let mut truths = Vec::with_capacity(alloc, count)?;
     for row in 0..count {
-        truths.push(verdict.of_text(values.get(row), literal))?;
+        truths.push_reserved(verdict.of_text(values.get(row), literal));
     }
     Ok(truths)
 }

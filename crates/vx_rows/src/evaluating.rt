@@ -10,7 +10,8 @@ use crate::binding::kind_of_predicate;
 use crate::cell::of_scalar;
 use crate::fields::field_rows;
 use crate::nodes::{
-    add_rows, and_rows, compare_rows, not_rows, null_rows, or_rows, present_rows, true_rows,
+    add_rows, and_rows, compare_rows, not_rows, null_rows, or_rows, present_rows, true_comparisons,
+    true_rows,
 };
 use crate::operand::Operand;
 use crate::{Column, Predicate};
@@ -78,6 +79,11 @@ pub fn satisfying(
 ) -> Result<Vec<bool>, AllocError>
     ensures { IfOk result (λ bits. bits.items ≡ rows_satisfying (pred_view predicate.now) (dtype_view dtype.now) (column_view column.now)) }
 {
+    if let Predicate::Compare(op, p, q) = predicate {
+        let a = evaluate(alloc, p, dtype, column)?;
+        let b = evaluate(alloc, q, dtype, column)?;
+        return Ok(true_comparisons(alloc, *op, &a, &b, column.len())?);
+    }
     let whole = evaluate(alloc, predicate, dtype, column)?;
     Ok(true_rows(alloc, &whole, column.len())?)
 }

@@ -78,8 +78,7 @@ fn append_structs(
     ensures fields { OnOk result (builders_view builders.new ≡ fields_appended (builders_view builders.old) (columns_view columns.now)) }
     ensures kept { Keeps (structs rows.old (builders_view builders.old)) (structs rows.new (builders_view builders.new)) }
 {
-    let flags = more.flags(alloc)?;
-    rows.append(&flags)?;
+    more.push_flags(rows)?;
     append_fields(alloc, builders, columns)
 }
 

@@ -145,10 +145,9 @@ impl IntBuilder {
         ensures ok { OnOk result (self.new ≡ record self.old { rows = self.old.rows ++ column.now.rows }) }
         ensures kept { Keeps (ints self.old) (ints self.new) }
     {
-        let flags = column.flags(alloc)?;
         let before = self.bytes.len();
         column.push_cells(&mut self.bytes)?;
-        match self.present.append(&flags) {
+        match column.push_flags(&mut self.present) {
             Ok(()) => Ok(()),
             Err(error) => {
                 self.bytes.truncate(before);

@@ -5,14 +5,15 @@ ghost use Rattle.std.specs.Int.{w8, w16, w32, w64, from_le_bytes, cast_signed};
 ghost use Rattle.std.specs.List.{flat_map};
 ghost use Rattle.vx_rows.specs.Span.{span, every};
 ghost use Rattle.vx_rows.specs.Bits.{present_at};
-ghost use Rattle.vx_rows.specs.Columns.{value_size, value_place, raw_at, value_of, int_row, is_clear, may_hold};
+ghost use Rattle.vx_rows.specs.Columns.{are_there, value_size, value_place, raw_at, value_of, int_row, is_clear, may_hold};
 ghost use Rattle.vx_rows.specs.Keys.{of_key};
 ghost use Rattle.vx_rows.specs.Rows.{ints, AreWithin};
 ghost use Rattle.vx_rows.specs.Parts.{plain_size};
 ghost use Rattle.vx_rows.specs.Written.{cell, ints_bytes};
 
 use crate::Bits;
-use crate::parts::{are_all_present, flags_of, part_of};
+use crate::flags::Flags;
+use crate::parts::{are_all_present, part_of};
 use crate::plain_size::size_of_ints;
 use crate::presence::push_presence;
 use std::alloc::{AllocError, Global};
@@ -189,6 +190,17 @@ pub fn key_at(ptype: PType, bytes: &[u8], at: usize) -> i64
         PType::I32 => i64::from(i32_at(bytes, at)),
         PType::I64 => i64_at(bytes, at),
     }
+}
+
+/// The key of an integer, where it has one.
+pub fn key_of(ptype: PType, number: i128) -> Option<i64>
+    ensures { IfSome result (λ key. of_key ptype key ≡ number) }
+{
+    let moved = match ptype {
+        PType::U64 => number.checked_sub(HALF)?,
+        _ => number,
+    };
+    i64::try_from(moved).ok()
 }
 
 /// The value that a key stands for.
@@ -528,11 +540,13 @@ impl IntColumn {
         )
     }
 
-    /// Which rows have a value. Only memory refuses.
+    /// Adds which rows have a value to those of other rows. Only memory refuses, and then nothing changes.
     #[tactic(auto, using(crate::proofs::WrittenLemmas::ints_present, crate::proofs::SpanLemmas::length_span))]
-    pub(crate) fn flags(&self, alloc: Global) -> Result<Vec<bool>, AllocError>
-        ensures { IfOk result (λ flags. flags.items ≡ map is_some self.now.rows) }
+    pub(crate) fn push_flags(&self, flags: &mut Flags) -> Result<(), AllocError>
+        requires { are_there flags.old.nullable (map is_some self.now.rows) ≡ true }
+        ensures ok { OnOk result (flags.new ≡ record flags.old { present = flags.old.present ++ map is_some self.now.rows }) }
+        ensures err { OnErr result (flags.new ≡ flags.old) }
     {
-        Ok(flags_of(alloc, &self.present, self.len())?)
+        flags.append(&self.present, self.len())
     }
 }

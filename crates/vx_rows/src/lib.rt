@@ -29,6 +29,7 @@ mod kind;
 mod layout_reader;
 mod making;
 mod mask;
+mod meeting;
 mod nodes;
 mod operand;
 mod part_laws;

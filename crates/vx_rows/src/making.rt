@@ -1,6 +1,6 @@
 //! Columns that are made of values.
 ghost use Rattle.std.specs.Prelude.{◌≡◌, ◌++◌, ◌+◌, ℤ, Option, map, length, is_some, unwrap_or};
-ghost use Rattle.std.specs.Prelude.{string_bytes, OnOk, IfOk, IfSome, true, false, Some, None, if◌then◌else◌};
+ghost use Rattle.std.specs.Prelude.{string_bytes, replicate, OnOk, IfOk, IfSome, true, false, Some, None, if◌then◌else◌};
 ghost use Rattle.std.specs.List.{All, flat_map};
 ghost use Rattle.vx_rows.specs.Columns.{may_hold, are_there, texts_of};
 ghost use Rattle.vx_rows.specs.Span.{span};
@@ -134,6 +134,14 @@ fn make_structs(alloc: Global, present: &[bool], nullable: bool) -> Result<Struc
     Ok(StructRows::new(nullable, bits, present.len()))
 }
 
+/// So many structs that are there. None may be null.
+#[tactic(auto, using(crate::proofs::MakingLemmas::all_there))]
+fn present_rows(rows: usize) -> StructRows
+    ensures { result ≡ record { nullable = false; present = replicate rows true } }
+{
+    StructRows::new(false, None, rows)
+}
+
 impl Column {
     /// A column of truth values, none only where it may be null. Only memory refuses.
     pub fn bools(
@@ -191,5 +199,13 @@ impl Column {
     {
         let rows = make_structs(alloc, present, nullable)?;
         Ok(Column::Struct(rows, Columns::new(fields)))
+    }
+
+    /// A column of structs of fields that have so many rows. Each struct is there, and none may be null.
+    pub fn present_structs(fields: Vec<(String, Column)>, rows: usize) -> Column
+        requires { AllHaveRows rows (pairs_view fields.items) }
+        ensures { column_view result ≡ structs (record { nullable = false; present = replicate rows true }) (pairs_view fields.items) }
+    {
+        Column::Struct(present_rows(rows), Columns::new(fields))
     }
 }

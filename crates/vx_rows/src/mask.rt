@@ -1,8 +1,11 @@
 //! A choice of rows.
-ghost use Rattle.std.specs.Prelude.{◌≡◌, ◌<◌, ◌==◌, length, slice_index_or, true};
+ghost use Rattle.std.specs.Prelude.{ℕ, ◌≡◌, ◌<◌, ◌≤◌, ◌==◌, length, slice_index_or, true};
 ghost use Rattle.std.specs.List.{list_all};
 
 use std::marker::Model;
+
+/// So many rows are looked at at once.
+const BLOCK: usize = 64;
 
 /// One truth value for each row.
 #[derive(Debug, Drop)]
@@ -46,6 +49,35 @@ impl Mask {
         ensures { result ≡ slice_index_or self.now at true }
     {
         self.bits[at]
+    }
+
+    /// Whether the rows from one on, up to another, have this truth value. No row ends the search, so that many rows are looked
+    /// at at once.
+    fn are_between(&self, from: usize, to: usize, value: bool) -> bool
+        requires ordered { from ≤ to }
+        requires inside { to ≤ length self.now }
+        ensures { result ≡ true → (k : ℕ) → from ≤ k → k < to → slice_index_or self.now k true ≡ value }
+    {
+        let mut all = true;
+        for row in from..to {
+            all = all & (self.get(row) == value);
+        }
+        all
+    }
+
+    /// A row from one on, behind rows that all have this truth value, which are passed block by block. What stands there may
+    /// have it too.
+    pub fn skip(&self, from: usize, value: bool) -> usize
+        requires { from ≤ length self.now }
+        ensures behind { from ≤ result }
+        ensures inside { result ≤ length self.now }
+        ensures passed { (k : ℕ) → from ≤ k → k < result → slice_index_or self.now k true ≡ value }
+    {
+        let mut at = from;
+        while self.len() - at >= BLOCK && self.are_between(at, at + BLOCK, value) {
+            at += BLOCK;
+        }
+        at
     }
 
     /// Whether each row is chosen. No row ends the search, so that many rows are looked at at once.

@@ -1,5 +1,5 @@
 //! The nodes of predicates, each over all rows.
-ghost use Rattle.std.specs.Prelude.{◌≡◌, IfOk};
+ghost use Rattle.std.specs.Prelude.{◌≡◌, map, IfOk};
 ghost use Rattle.vx_rows.specs.Span.{span};
 ghost use Rattle.vx_rows.specs.Truth.{kleene_and, kleene_or, kleene_not, is_true as holds};
 ghost use Rattle.vx_rows.specs.Operands.{compared_at, summed_at, and_at, or_at, not_at, null_at, present_at, true_at, is_true_in};
@@ -7,6 +7,7 @@ ghost use Rattle.vx_rows.specs.Operands.{compared_at, summed_at, and_at, or_at, 
 use crate::cell::{add, compare, is_null, truth_of};
 use crate::comparing::{Verdict, compare_literal};
 use crate::kind::Kind;
+use crate::meeting::meet_literal;
 use crate::operand::Operand;
 use crate::{BindError, Comparison};
 use std::alloc::{AllocError, Global};
@@ -214,7 +215,7 @@ fn true_truths(
 {
     let mut bits = Vec::with_capacity(alloc, count)?;
     for row in 0..count {
-        bits.push(is_true_at(truths, row))?;
+        bits.push_reserved(is_true_at(truths, row));
     }
     Ok(bits)
 }
@@ -229,6 +230,28 @@ fn true_cells(alloc: Global, a: &Operand, count: usize) -> Result<Vec<bool>, All
         bits.push(is_true(truth_of(a.at(row))))?;
     }
     Ok(bits)
+}
+
+/// Whether a comparison is true at each of so many rows. Mostly a column without nulls is compared with a literal, on either
+/// side.
+pub fn true_comparisons(
+    alloc: Global,
+    op: Comparison,
+    a: &Operand,
+    b: &Operand,
+    count: usize,
+) -> Result<Vec<bool>, AllocError>
+    ensures { IfOk result (λ bits. bits.items ≡ map holds (span (compared_at op a.now b.now) 0 count)) }
+{
+    let verdict = Verdict::of(op);
+    if let Some(flags) = meet_literal(alloc, verdict, a, b, count)? {
+        return Ok(flags);
+    }
+    if let Some(flags) = meet_literal(alloc, verdict.turned(), b, a, count)? {
+        return Ok(flags);
+    }
+    let truths = compare_rows(alloc, op, a, b, count)?;
+    Ok(true_truths(alloc, &truths, count)?)
 }
 
 /// Whether each of so many rows is true. Mostly a node has told truth values.

@@ -1,10 +1,11 @@
 //! Which structs of a column are not null.
-ghost use Rattle.std.specs.Prelude.{◌≡◌, ◌++◌, ◌<◌, ◌≤◌, length, map, slice_index_or, slice_range, IfOk, IfSome, Some, true, false, OnOk};
+ghost use Rattle.std.specs.Prelude.{◌≡◌, ◌++◌, ◌<◌, ◌≤◌, length, map, slice_index_or, slice_range, IfOk, IfSome, Some, true, false, OnOk, OnErr};
 ghost use Rattle.vx_rows.specs.Columns.{are_there};
 ghost use Rattle.vx_rows.specs.Span.{span};
 ghost use Rattle.vx_rows.specs.Bits.{present_at};
 ghost use Rattle.vx_rows.specs.Written.{presence_bytes};
 
+use crate::flags::Flags;
 use crate::int_column::has_value;
 use crate::parts::{are_all_present, flags_of, part_of};
 use crate::presence::push_presence;
@@ -141,6 +142,15 @@ impl StructRows {
     {
         let values = self.to_bits(alloc)?;
         Ok(BoolColumn::new(false, None, values))
+    }
+
+    /// Adds which rows are not null to those of other rows. Only memory refuses, and then nothing changes.
+    pub(crate) fn push_flags(&self, flags: &mut Flags) -> Result<(), AllocError>
+        requires { are_there flags.old.nullable self.now.present ≡ true }
+        ensures ok { OnOk result (flags.new ≡ record flags.old { present = flags.old.present ++ self.now.present }) }
+        ensures err { OnErr result (flags.new ≡ flags.old) }
+    {
+        flags.append(&self.bits, self.count)
     }
 
     /// Which rows are not null. Only memory refuses.

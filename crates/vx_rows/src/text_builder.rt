@@ -161,9 +161,8 @@ impl TextBuilder {
         ensures ok { OnOk result (self.new ≡ record self.old { rows = self.old.rows ++ column.now.rows }) }
         ensures kept { Keeps (texts self.old) (texts self.new) }
     {
-        let flags = column.flags(alloc)?;
         let before = self.present.len();
-        self.present.append(&flags)?;
+        column.push_flags(&mut self.present)?;
         match column.append_to(&mut self.bytes, &mut self.places) {
             Ok(()) => Ok(()),
             Err(error) => {

@@ -3,7 +3,7 @@ ghost use Rattle.std.specs.Prelude.{ℕ, take, ◌≡◌, ◌++◌, ◌+◌, ◌
 ghost use Rattle.std.specs.Prelude.{slice_index_or, slice_range, is_some, IfOk, IfSome, Some, None, true, option_map, OnOk, OnErr};
 ghost use Rattle.std.specs.Str.{IsUtf8};
 ghost use Rattle.vx_rows.specs.Span.{span};
-ghost use Rattle.vx_rows.specs.Columns.{text_row, AreRanges, AreTexts, may_hold};
+ghost use Rattle.vx_rows.specs.Columns.{are_there, text_row, AreRanges, AreTexts, may_hold};
 ghost use Rattle.vx_rows.specs.PlainTexts.{ArePlainTexts};
 ghost use Rattle.vx_rows.specs.Rows.{texts, AreUtf8};
 ghost use Rattle.vx_rows.specs.Parts.{plain_size};
@@ -13,8 +13,9 @@ ghost use Rattle.std.specs.List.{flat_map};
 ghost use Rattle.std.specs.Int.{w32, to_le_bytes};
 
 use crate::Bits;
+use crate::flags::Flags;
 use crate::int_column::has_value;
-use crate::parts::{are_all_present, flags_of, part_of};
+use crate::parts::{are_all_present, part_of};
 use crate::plain_size::size_of_texts;
 use crate::presence::push_presence;
 use crate::shared_places::SharedPlaces;
@@ -429,11 +430,13 @@ impl TextColumn {
         size_of_texts(self.may_be_null, self.len(), self.bytes_len())
     }
 
-    /// Which rows have a value. Only memory refuses.
+    /// Adds which rows have a value to those of other rows. Only memory refuses, and then nothing changes.
     #[tactic(auto, using(crate::proofs::WrittenLemmas::texts_present, crate::proofs::SpanLemmas::length_span))]
-    pub(crate) fn flags(&self, alloc: Global) -> Result<Vec<bool>, AllocError>
-        ensures { IfOk result (λ flags. flags.items ≡ map is_some self.now.rows) }
+    pub(crate) fn push_flags(&self, flags: &mut Flags) -> Result<(), AllocError>
+        requires { are_there flags.old.nullable (map is_some self.now.rows) ≡ true }
+        ensures ok { OnOk result (flags.new ≡ record flags.old { present = flags.old.present ++ map is_some self.now.rows }) }
+        ensures err { OnErr result (flags.new ≡ flags.old) }
     {
-        Ok(flags_of(alloc, &self.present, self.len())?)
+        flags.append(&self.present, self.len())
     }
 }

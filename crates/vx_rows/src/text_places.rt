@@ -196,6 +196,12 @@ fn push_narrow_ends(
 {
     narrow.reserve(rows)?;
     let first = places.at(0);
+    if let Some(all) = places.as_narrow() {
+        for row in 0..rows {
+            narrow.push_reserved((start + (all[row + 1] as usize - first)) as u32);
+        }
+        return Ok(());
+    }
     for row in 0..rows {
         narrow.push_reserved((start + (places.behind(row) - first)) as u32);
     }

@@ -101,6 +101,8 @@ fn values_are_read(rt: HostRuntime) -> Result<(), Fail> {
 fn a_mask_keeps_its_bits(rt: HostRuntime) -> Result<(), Fail> {
     let mask = Mask::new(vec![in rt.alloc(); true, false]?);
     assert!(rt; mask.len() == 2 && mask.get(0) && !mask.get(1));
+    let long = Mask::new(vec![in rt.alloc(); true; 130]?);
+    assert!(rt; long.skip(1, true) == 129 && long.skip(1, false) == 1);
     Ok(())
 }
 
