@@ -173,6 +173,36 @@ joins_more d all rest c front next j e =
 pub joins_all : (d : Dtype) (all : List Rows) (front : Rows) → Joins d all [] front → front ≡ joined d all
 joins_all d all front j = sym (subst (λ (t : Dtype). appended front (no_rows t) ≡ front) j.typed (none_behind front)) ∙ j.value
 
+-- one chunk more behind those that are joined
+joined_behind : (d : Dtype) (cs : List Rows) (c : Rows) → AreChunks d cs → dtype_of c ≡ d → appended (joined d cs) c ≡ joined d (cs ++ c ∷ [])
+joined_behind d [] c h t = subst (λ (t : Dtype). appended (no_rows t) c ≡ appended c (no_rows t)) t (none_before c ∙ sym (none_behind c))
+joined_behind d (x ∷ xs) c h t =
+    appended_assoc x (joined d xs) c (h.0.0 ∙ sym (joined_type d xs h.1)) ∙ ap (appended x) (joined_behind d xs c h.1 t)
+
+chunks_behind : (d : Dtype) (cs : List Rows) (c : Rows) → AreChunks d cs → (dtype_of c ≡ d) × IsColumn (rows_len c) c → AreChunks d (cs ++ c ∷ [])
+chunks_behind d [] c h x = (x, tt)
+chunks_behind d (y ∷ ys) c h x = (h.0, chunks_behind d ys c h.1 x)
+
+-- the rows of the chunks so far
+pub record IsJoined (d : Dtype) (cs : List Rows) (rows : Rows) : Type 0 where
+  pub value : rows ≡ joined d cs
+  pub typed : dtype_of rows ≡ d
+  pub chunks : AreChunks d cs
+
+pub joined_none : (d : Dtype) (rows : Rows) → rows ≡ no_rows d → dtype_of rows ≡ d → IsJoined d [] rows
+joined_none d rows e t = record { value = e; typed = t; chunks = tt }
+
+pub joined_more : (d : Dtype) (cs : List Rows) (c before now : Rows) → IsJoined d cs before → dtype_of c ≡ d → IsColumn (rows_len c) c → now ≡ appended before (part 0 (rows_len c) c)
+    → IsJoined d (cs ++ c ∷ []) now
+joined_more d cs c before now j t s e =
+    let whole = all-kept c (rows_len c) (column_rows (rows_len c) c s) in
+    let grown : now ≡ appended before c = e ∙ ap (appended before) whole in
+    record {
+      value = grown ∙ ap (λ (x : Rows). appended x c) j.value ∙ joined_behind d cs c j.chunks t;
+      typed = ap dtype_of grown ∙ appended_type before c ∙ j.typed;
+      chunks = chunks_behind d cs c j.chunks (t, s);
+    }
+
 some-same : {A : Type 0} → (x y : A) → Some x ≡ Some y → x ≡ y
 some-same x y e = cc
 

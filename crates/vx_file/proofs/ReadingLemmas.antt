@@ -1,12 +1,13 @@
 -- Layouts that are read child by child, and the first flat layout that fails.
 use Rattle.std.proofs.Common.{◌≡◌, ℕ, zero, suc, ◌+◌, ◌<◌, ◌≤◌, Bool, true, false, List, [], ◌∷◌, ◌++◌, length, map, Option, Some, None, Result, Err, refl, ap, sym, ◌∙◌, subst, inl, inr, append_assoc, arith, get_or, drop, add-one, drop-cons}
-use Rattle.std.specs.Prelude.{OnOk, is_some, sum_by, ◌==◌, ◌&&◌}
+use Rattle.std.specs.Prelude.{OnOk, is_some, sum_by, replicate, ◌==◌, ◌&&◌}
 use Rattle.std.specs.List.{list_all, AllByRecursion}
 use Rattle.std.specs.Option.{option_map, option_and_then}
 use Rattle.std.proofs.lemmas.List.{append-nil, drop_all}
 use Rattle.std.proofs.lemmas.Option.{slice_get-get_or}
 use Rattle.std.proofs.lemmas.List.Sums.{sum_by-cons}
 use Rattle.vx_rows.proofs.ColumnLaws.{rows_are, column_rows}
+use Rattle.vx_file.proofs.JoiningLemmas.{IsJoined}
 use Rattle.vx_data.specs.declared.layout_kind.LayoutKind.{LayoutKind}
 use Rattle.vx_data.specs.declared.layout_kind.LayoutKind.TheVariants.{Flat, Chunked, Struct}
 use Rattle.vx_data.specs.Dtype.{Dtype, bool, int, text, struct}
@@ -308,6 +309,34 @@ child-below (x ∷ ts) (suc i) t l is = let below = child-below ts i t (omega (a
 
 pub child_smaller : (a : LayoutTree) (ts : List LayoutTree) (i : ℕ) (t : LayoutTree) → layouts_of ts ≡ children_of a → i < length ts → t ≡ get_or ts i t → tree_size t < tree_size a
 child_smaller (node k d n s cs) ts i t e l is = let below = child-below ts i t l is in let same = ap trees_size e in omega (arith, below, same)
+
+-- ---- chunks
+
+first-type : (a b : Dtype) (as_ bs : List Dtype) → a ∷ as_ ≡ b ∷ bs → a ≡ b
+first-type a b as_ bs e = cc
+
+other-types : (a b : Dtype) (as_ bs : List Dtype) → a ∷ as_ ≡ b ∷ bs → as_ ≡ bs
+other-types a b as_ bs e = cc
+
+type-at : (d : Dtype) (ts : List LayoutTree) (i : ℕ) (t : LayoutTree) → replicate (length ts) d ≡ map type_of_tree ts → i < length ts → t ≡ get_or ts i t → type_of_tree t ≡ d
+type-at d [] i t e l is = absurd (omega (arith, l))
+type-at d (x ∷ ts) zero t e l is = ap type_of_tree is ∙ sym (first-type d (type_of_tree x) (replicate (length ts) d) (map type_of_tree ts) e)
+type-at d (x ∷ ts) (suc i) t e l is = type-at d ts i t (other-types d (type_of_tree x) (replicate (length ts) d) (map type_of_tree ts) e) (omega (arith, l)) is
+
+-- a chunk has the type of the whole
+pub chunk_typed : (k : LayoutKind) (d : Dtype) (n : ℕ) (s : List ℕ) (ts : List LayoutTree) (i : ℕ) (t : LayoutTree) → k ≡ Chunked → Fits k d n s ts → i < length ts → t ≡ get_or ts i t → type_of_tree t ≡ d
+chunk_typed k d n s ts i t chunked f l is =
+    type-at d ts i t (some-same (replicate (length ts) d) (map type_of_tree ts) (subst (λ j. child_dtypes j d (length ts) ≡ Some (map type_of_tree ts)) chunked f.dtypes)) l is
+
+-- the rows of a column of a layout are as many as its own length says
+pub chunk_even : (t : LayoutTree) (c : Rows) → IsOf t c → IsColumn (rows_len c) c
+chunk_even t c h = subst (λ n. IsColumn n c) (sym (len-of t c h)) h.1
+
+-- the chunks in front are read and joined, and those behind are to be
+pub record ReadChunks (serves : List ℕ → Type 0) (start now : SourceState) (ids : List (List ℕ)) (all rest : Layouts) (d : Dtype) (rows : Rows) : Type 0 where
+  pub front : List Rows
+  pub progress : Progress serves start now ids all rest front
+  pub joined : IsJoined d front rows
 
 -- ---- a flat layout
 

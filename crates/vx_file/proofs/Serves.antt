@@ -1,5 +1,5 @@
 -- A script that was answered over an opened file was served from it.
-use Rattle.std.proofs.Common.{◌≡◌, ℕ, ◌+◌, Bool, List, [], ◌∷◌, ◌++◌, drop, Option, Some, None, Result, Err, refl, sym, ap, subst, ◌∙◌, arith, append_assoc, ◌⊎◌, inl, inr}
+use Rattle.std.proofs.Common.{◌≡◌, ℕ, ◌+◌, Bool, List, [], ◌∷◌, ◌++◌, length, drop, Option, Some, None, Result, Err, refl, sym, ap, subst, ◌∙◌, arith, append_assoc, ◌⊎◌, inl, inr}
 use Rattle.std.specs.Option.{option_map}
 use Rattle.std.proofs.lemmas.List.{append-nil}
 use Rattle.vx_base.specs.Caches.{Segments, CacheState, SameCache}
@@ -7,6 +7,7 @@ use Rattle.vx_base.specs.Counts.{Rises}
 use Rattle.vx_base.specs.Readers.{ReaderState, settings_of}
 use Rattle.vx_base.specs.declared.segment.SegmentSpec.{SegmentSpec}
 use Rattle.vx_footer.specs.Footers.{segment_table}
+use Rattle.vx_base.specs.Asking.{Log}
 use Rattle.vx_source.specs.Asks.{Grew, asked_by, bad_spans}
 use Rattle.vx_source.specs.Bytes.{HasBytes, IsEnd}
 use Rattle.vx_source.specs.Caching.{HasGot}
@@ -155,6 +156,20 @@ plays-is w file script before now first cache cache_now replies k told bytes h =
       failed = subst (λ rs. Rises (cache_failures rs) cache.faults cache_now.faults) h.replies_are (leads-failed w cache cache_now h.history h.fits h.leads);
     }
 
+-- no step is played
+plays-nothing : (w : World) (file : List ℕ) (script : List Step) (cache : CacheState) → script ≡ [] → Plays w file script cache cache []
+plays-nothing w file script cache none = record {
+  history = [];
+  answers = record { steps_are = sym none; replies_are = refl; one_each = sym (ap length none); fits = tt };
+  leads = refl;
+  true_of = λ t. tt;
+  failed = record { later = omega arith; risen = omega arith };
+}
+
+grew-nothing : (log : Option Log) → Grew [] log log
+grew-nothing None = refl
+grew-nothing (Some l) = ap Some (sym (append-nil l))
+
 module _ (plan : Plan) (include : Bool) (file : List ℕ) (script : List Step) (start mid now : ReaderState) (cache prepared cache_now : CacheState) (p : Prepared) (h : PreparedFrom plan include file start mid cache prepared p) where
   pub served-is : (replies : List Reply) → (plays : Plays (world_of plan p.footer.content (settings_of start)) file script prepared cache_now replies)
       → Grew (asked_for replies) mid.log now.log → Rises (bad_replies replies) mid.faults now.faults
@@ -188,6 +203,13 @@ module _ (plan : Plan) (include : Bool) (file : List ℕ) (script : List Step) (
     prepared = h.asked;
     stops = stop;
   }
+
+-- a file was opened, and nothing else was to be done
+pub served-unasked : (plan : Plan) (include : Bool) (file : List ℕ) (script : List Step) (start mid : ReaderState) (cache prepared : CacheState) (p : Prepared) (h : PreparedFrom plan include file start mid cache prepared p) (replies : List Reply)
+    → script ≡ [] → replies ≡ [] → ServedFrom plan include file script start mid cache prepared (record { footer = p.footer; metadata = p.metadata; opening = p.opening; replies = replies })
+served-unasked plan include file script start mid cache prepared p h replies none empty =
+    rw empty (served-is plan include file script start mid mid cache prepared prepared p h [] (plays-nothing (world_of plan p.footer.content (settings_of start)) file script prepared none) (grew-nothing mid.log)
+    (record { later = omega arith; risen = omega arith }))
 
 -- a file was not prepared
 pub prepare-refused : (plan : Plan) (include : Bool) (file : List ℕ) (script : List Step) (start mid : ReaderState) (cache cache_now : CacheState) (e : ServeError) → PrepareCause plan include file start mid cache cache_now (Err e)

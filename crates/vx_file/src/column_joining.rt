@@ -12,7 +12,11 @@ use vx_data::DType;
 use vx_rows::{BoolColumn, Column, GrowingColumn};
 
 /// Adds the rows of a column, which then goes. Only memory refuses.
-fn take_rows(alloc: Global, growing: &mut GrowingColumn, chunk: Column) -> Result<(), AllocError>
+pub(crate) fn take_rows(
+    alloc: Global,
+    growing: &mut GrowingColumn,
+    chunk: Column,
+) -> Result<(), AllocError>
     requires typed { dtype_of (column_view chunk) ≡ dtype_of growing.old }
     requires even { IsColumn (rows_len (column_view chunk)) (column_view chunk) }
     ensures { OnOk result (growing.new ≡ appended growing.old (part 0 (rows_len (column_view chunk)) (column_view chunk))) }
@@ -65,13 +69,6 @@ fn flags_of(alloc: Global, column: &BoolColumn) -> Result<Vec<bool>, AllocError>
     Ok(flags)
 }
 
-/// So many rows that are true.
-fn all_true(alloc: Global, rows: usize) -> Result<Vec<bool>, AllocError>
-    ensures { IfOk result (λ flags. flags.items ≡ replicate rows true) }
-{
-    vec![in alloc; true; rows]
-}
-
 /// Structs that are all there.
 fn zip_all(
     alloc: Global,
@@ -83,9 +80,8 @@ fn zip_all(
     ensures { let fs = types_view fields.now in
         IfOk result (λ c. struct_rows fs false rows (seen columns.items) ≡ Some (column_view c)) }
 {
-    let present = all_true(alloc, rows)?;
     let fields = named(alloc, fields, columns.into_iter())?;
-    Ok(Column::structs(alloc, fields, &present, false)?)
+    Ok(Column::present_structs(fields, rows))
 }
 
 /// Structs of which the first column says which are there.

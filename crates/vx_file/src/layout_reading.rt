@@ -2,7 +2,7 @@
 ghost use Rattle.std.specs.Prelude.{◌≡◌, ℕ, List, ◌∷◌, [], ◌++◌, map, string_bytes, Ok, Err, IfOk, OnOk};
 ghost use Rattle.vx_data.specs.Layout.{kind_of, segments_of, children_of, no_layouts};
 ghost use Rattle.vx_data.specs.Layout.{dtype_of as type_of_tree, rows_of as tree_rows};
-ghost use Rattle.vx_data.specs.declared.layout_kind.LayoutKind.TheVariants.{Flat};
+ghost use Rattle.vx_data.specs.declared.layout_kind.LayoutKind.TheVariants.{Flat, Chunked};
 ghost use Rattle.vx_rows.specs.Rows.{column_view};
 ghost use Rattle.vx_source.specs.Sources.{SameSource};
 ghost use Rattle.vx_file.specs.declared.scan_error.ScanError.{ScanError};
@@ -10,11 +10,11 @@ ghost use Rattle.vx_file.specs.Scans.{seen, array_in, flats_of, flats_of_all, Is
 ghost use Rattle.vx_file.specs.Scans.{IsRead, AreRead, NamesFirst, DecodeFails, SourceFails};
 
 use crate::ScanError;
-use crate::column_joining::{join, zip};
+use crate::column_joining::{take_rows, zip};
 use std::alloc::{AllocError, Global};
 use vx_base::{ByteBuffer, SegmentId};
 use vx_data::{Layout, LayoutKind};
-use vx_rows::{ArrayError, Column, decode_array};
+use vx_rows::{ArrayError, Column, GrowingColumn, decode_array};
 use vx_source::{SegmentSource, SourceError};
 
 /// The column of a flat layout whose segment has these bytes.
@@ -114,6 +114,36 @@ fn read_children<S: SegmentSource>(
     Ok(columns)
 }
 
+/// The rows of the layouts below, one behind the other. Each column goes as soon as its rows are taken, before the next
+/// segment is read, so that the bytes are hardly ever held twice.
+#[cycle(reading)]
+fn read_chunks<S: SegmentSource>(
+    alloc: Global,
+    source: &mut S,
+    layout: &Layout,
+    ids: &[String],
+) -> Result<Column, ScanError>
+    requires { kind_of layout.now ≡ Chunked }
+    ensures reads { let names = map string_bytes ids.now in
+        IfOk result (λ c. IsRead (S.serves source.old) (S.state source.old) names layout.now (column_view c)) }
+    ensures typed { IfOk result (λ c. IsOf layout.now (column_view c)) }
+    ensures fails { let flats = flats_of layout.now in (e : ScanError) → result ≡ Err e →
+        NamesFirst (S.serves source.old) (S.state source.old) (S.state source.new) (map string_bytes ids.now) flats e }
+    ensures cause { (e : ScanError) → result ≡ Err e → SourceFails (S.state source.old) (S.state source.new) e }
+    ensures serves { (file : List ℕ) → S.serves source.old file → S.serves source.new file }
+    ensures steady { (file : List ℕ) → S.never_fails source.old file →
+        S.never_fails source.new file × ((S.state source.new).faults ≡ (S.state source.old).faults) }
+    ensures same { SameSource (S.state source.old) (S.state source.new) }
+{
+    let children = layout.fitted_children();
+    let mut rows = GrowingColumn::new(alloc, layout.dtype())?;
+    for child in children {
+        let column = read_layout(alloc, source, child, ids)?;
+        take_rows(alloc, &mut rows, column)?;
+    }
+    Ok(rows.finish(alloc)?)
+}
+
 /// The column of a layout, read segment by segment, in preorder, from a source. Where it fails, the error names the
 /// first flat layout that does.
 #[cycle(reading)]
@@ -136,10 +166,7 @@ pub(crate) fn read_layout<S: SegmentSource>(
 {
     match layout.kind() {
         LayoutKind::Flat => read_flat(alloc, source, layout, ids),
-        LayoutKind::Chunked => {
-            let chunks = read_children(alloc, source, layout, ids)?;
-            Ok(join(alloc, layout.dtype(), chunks)?)
-        }
+        LayoutKind::Chunked => read_chunks(alloc, source, layout, ids),
         LayoutKind::Struct => {
             let columns = read_children(alloc, source, layout, ids)?;
             let rows = layout.row_count() as usize;

@@ -14,7 +14,7 @@ fn next_kept(mask: &Mask, from: usize) -> usize
     ensures not_kept { (k : ℕ) → from ≤ k → k < result → slice_index_or mask.now k true ≡ false }
     ensures kept { result < length mask.now → slice_index_or mask.now result true ≡ true }
 {
-    let mut at = from;
+    let mut at = mask.skip(from, false);
     while at < mask.len() {
         if mask.get(at) {
             return at;
@@ -32,7 +32,7 @@ fn run_end(mask: &Mask, from: usize) -> usize
     ensures kept { (k : ℕ) → from ≤ k → k < result → slice_index_or mask.now k true ≡ true }
     ensures not_kept { result < length mask.now → slice_index_or mask.now result true ≡ false }
 {
-    let mut at = from;
+    let mut at = mask.skip(from, true);
     while at < mask.len() {
         if !mask.get(at) {
             return at;

@@ -10,7 +10,7 @@ use crate::prepared::{Prepared, prepare, session_of};
 use crate::steps::answer_steps;
 use crate::{ServeError, ServeOptions, Served, Step};
 use std::alloc::Global;
-use vx_base::{Reader, SegmentCache};
+use vx_base::{Reader, SegmentCache, Sequence};
 
 /// Opens a file, from its tail or by the footer that is supplied, and answers a script, one reply a step. The cache
 /// is asked for segments that the tail does not cover, and given those that it covers and those that are read. Where the
@@ -46,6 +46,15 @@ pub fn serve<R: Reader, C: SegmentCache>(
         opening,
         metadata,
     } = prepared;
+    if script.is_empty() {
+        // no session is made, whose tables are as long as that of the segments
+        return Ok(Served {
+            footer,
+            metadata,
+            opening,
+            replies: Sequence::new(alloc),
+        });
+    }
     let segments = footer.segment_specs_with_metadata();
     let mut session = session_of(alloc, reader, tail, segments)?;
     let replies = match answer_steps(alloc, &mut session, reader, cache, script) {

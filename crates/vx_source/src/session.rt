@@ -92,7 +92,7 @@ fn nothing_read(alloc: Global, count: usize) -> Result<Vec<Option<u64>>, AllocEr
     ensures len { IfOk result (λ v. length v.items ≡ count) }
     ensures blank { IfOk result (λ v. IsBlank v.items) }
 {
-    let mut newest = Vec::new(alloc);
+    let mut newest = Vec::with_capacity(alloc, count)?;
     for _s in 0..count {
         newest.push(None)?;
     }

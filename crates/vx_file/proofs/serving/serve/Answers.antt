@@ -1,4 +1,5 @@
-use Rattle.std.proofs.Common.{◌≡◌, List, inl, inr, rules, ◌∙◌, sym, subst, Err}
+use Rattle.std.proofs.Common.{◌≡◌, List, [], ◌∷◌, length, refl, inl, inr, rules, ◌∙◌, sym, subst, Err}
+use Rattle.vx_file.specs.declared.step.Step.{Step}
 use Rattle.vx_base.specs.Readers.{settings_of}
 use Rattle.vx_base.specs.declared.segment.SegmentSpec.{SegmentSpec}
 use Rattle.vx_source.specs.Stands.{AreFit}
@@ -6,7 +7,7 @@ use Rattle.vx_file.specs.declared.served.ServeError.TheVariants.{OutOfMemory}
 use Rattle.vx_file.specs.Plans.{plan_of, world_of}
 use Rattle.vx_file.proofs.Opens.{plan-ends}
 use Rattle.vx_file.proofs.Prepares.{same-settings}
-use Rattle.vx_file.proofs.Serves.{own-world, own-bytes, plays-is, served-is, prepare-refused, prepare-rose, serving-stops}
+use Rattle.vx_file.proofs.Serves.{own-world, own-bytes, plays-is, served-is, prepare-refused, prepare-rose, serving-stops, served-unasked}
 use Rattle.vx_file.proofs.serving.serve.Goals as goal
 
 pub returns-in_err-prepared-clause-cause : goal.returns-in_err-prepared-clause-cause
@@ -27,6 +28,21 @@ returns-in_err-prepared-clause-fault g c =
 
 pub session_of-requires : goal.session_of-requires
 session_of-requires g c = subst (λ (t : List SegmentSpec). AreFit t c.in_ok-prepared.prepared.tail) (sym c.segment_specs_with_metadata-segments.ensures) c.in_ok-prepared.ensures.fit
+
+none-left : (steps : List Step) → length steps ≡ 0 → steps ≡ []
+none-left [] e = refl
+none-left (x ∷ xs) e = cc
+
+pub returns-then-is_empty-clause-cause : goal.returns-then-is_empty-clause-cause
+returns-then-is_empty-clause-cause g c = λ file told sized.
+    let state = g.R.Reader.state in
+    let cache = g.C.SegmentCache.state in
+    let none = none-left c.args.script.now (search rules) in
+    served-unasked (plan_of c.args.options file) c.args.options.metadata file c.args.script.now (state c.args.reader.now) (state c.prepare.new.reader) (cache c.args.cache.now) (cache c.prepare.new.cache)
+    c.in_ok-prepared.prepared (c.in_ok-prepared.ensures.cause file told sized) c.new.result none c.new.ensures
+
+pub returns-then-is_empty-clause-steady : goal.returns-then-is_empty-clause-steady
+returns-then-is_empty-clause-steady g c = λ file never told sized is. c.in_ok-prepared.ensures.steady file never told sized (inl is)
 
 pub returns-in_err-session-clause-cause : goal.returns-in_err-session-clause-cause
 returns-in_err-session-clause-cause g c = λ file told sized.
