@@ -147,6 +147,17 @@ impl TextOut {
         put_digits(number, self);
     }
 
+    /// Adds a number after a space.
+    #[inline(always)]
+    #[tactic(auto, using(crate::proofs::TextLemmas::adds_put, crate::proofs::TextLemmas::holds_then))]
+    pub(crate) fn number_after<S: Sink>(&mut self, out: &mut S, number: u64)
+        ensures { Adds (32 ∷ decimal number) self.old (S.state out.old) self.new (S.state out.new) }
+    {
+        self.make_room(out);
+        self.push(b' ');
+        put_digits(number, self);
+    }
+
     /// Adds the digits of a number, behind its sign where that is `-`.
     #[tactic(auto, using(crate::proofs::TextLemmas::adds_put))]
     pub(crate) fn integer<S: Sink>(&mut self, out: &mut S, number: i64)

@@ -4,7 +4,6 @@ ghost use Rattle.vx_data.specs.Layout.{layouts_of, kind_of, rows_of, segments_of
 ghost use Rattle.vx_main.specs.Render.{kind_name, layout_line, layout_lines, layouts_lines, numbers_after};
 ghost use Rattle.vx_main.specs.Text.{Adds};
 
-use crate::print::words::put_numbers;
 use crate::text::TextOut;
 use vx_base::{SegmentId, Sink};
 use vx_data::{Layout, LayoutKind};
@@ -24,7 +23,7 @@ fn put_ids<S: Sink>(ids: &[SegmentId], text: &mut TextOut, out: &mut S)
     ensures { Adds (numbers_after (numbers_of ids.now)) text.old (S.state out.old) text.new (S.state out.new) }
 {
     for id in ids {
-        put_numbers(&[u64::from(id.0)], text, out);
+        text.number_after(out, u64::from(id.0));
     }
 }
 
@@ -35,19 +34,11 @@ fn put_kind<S: Sink>(layout: &Layout, text: &mut TextOut, out: &mut S)
     text.word(out, name_of(layout.kind()).as_bytes());
 }
 
-/// Adds a number after a space.
-fn put_after<S: Sink>(number: u64, text: &mut TextOut, out: &mut S)
-    ensures { Adds (32 ∷ decimal number) text.old (S.state out.old) text.new (S.state out.new) }
-{
-    text.word(out, b" ");
-    text.number(out, number);
-}
-
 /// Adds the rows of a layout, and the segments that it names itself.
 fn put_counts<S: Sink>(layout: &Layout, text: &mut TextOut, out: &mut S)
     ensures { Adds (numbers_after (rows_of layout.now ∷ segments_of layout.now)) text.old (S.state out.old) text.new (S.state out.new) }
 {
-    put_after(layout.row_count(), text, out);
+    text.number_after(out, layout.row_count());
     put_ids(layout.segment_ids(), text, out);
 }
 

@@ -13,8 +13,7 @@ pub(crate) fn put_numbers<S: Sink>(numbers: &[u64], text: &mut TextOut, out: &mu
     ensures { Adds (numbers_after numbers.now) text.old (S.state out.old) text.new (S.state out.new) }
 {
     for number in numbers {
-        text.byte(out, b' ');
-        text.number(out, *number);
+        text.number_after(out, *number);
     }
 }
 
