@@ -17,6 +17,15 @@ const MOST_RANGES: usize = 8;
 // As many bytes are made and filled at once. So few are still near the processor when they are filled.
 const BLOCK: usize = 1 << 18;
 
+// For how many bytes a range of this length gets room: whole blocks, so that the room of one range serves the next, which
+// may be a little longer.
+fn room_for(length: usize) -> usize {
+    if length < BLOCK {
+        return length;
+    }
+    length.saturating_add(BLOCK - 1) / BLOCK * BLOCK
+}
+
 /// A reader over an open file, with no distance, no read limit and a concurrency of 8.
 #[derive(Drop)]
 pub struct FileReader {
@@ -74,7 +83,7 @@ impl FileReader {
 
     // The answer to one range.
     fn answer(&self, alloc: Global, range: &ReadAtRequest) -> Result<RangeAnswer, AllocError> {
-        let mut bytes = Vec::with_capacity(alloc, range.length)?;
+        let mut bytes = Vec::with_capacity(alloc, room_for(range.length))?;
         let result = if self.read_blocks(&mut bytes, range.offset, range.length)? {
             Ok(ByteBuffer::from_vec(alloc, bytes, range.alignment)?)
         } else {
