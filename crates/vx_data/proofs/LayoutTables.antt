@@ -1,10 +1,10 @@
 -- The tables of layouts, one after the other.
-use Rattle.std.proofs.Common.{◌≡◌, ℕ, suc, ◌+◌, ◌<◌, ◌≤◌, max, Bool, true, false, List, [], ◌∷◌, ◌++◌, length, get_or, drop, refl, ap, arith, add-one, drop-cons}
+use Rattle.std.proofs.Common.{◌≡◌, ℕ, zero, suc, ◌+◌, ◌<◌, ◌≤◌, max, Bool, true, false, List, [], ◌∷◌, ◌++◌, length, get_or, take, drop, refl, ap, sym, ◌∙◌, arith, add-one, drop-cons}
 use Rattle.std.specs.Prelude.{◌&&◌, ◌||◌, ◌==◌, cond}
 use Rattle.std.specs.Int.{w16, w64}
 use Rattle.std.specs.Str.{bytes_eq}
 use Rattle.std.proofs.lemmas.List.{length-map}
-use Rattle.vx_tables.specs.Block.{Piece, number, slot_count}
+use Rattle.vx_tables.specs.Block.{Piece, number, slot_count, slots_from, Listed, list_piece}
 use Rattle.vx_data.specs.Layout.{LayoutTree, node, layouts_of, kind_of, rows_of, segments_of, children_of, tree_size, trees_size}
 use Rattle.vx_data.specs.LayoutWritten.{kind_id, place_in, has_id, uses_ids, all_use, children_pieces, node_pieces, tree_pieces, trees_pieces, tree_levels, most_tree_levels, vector_visit, segments_visits, tree_visits, trees_visits}
 
@@ -23,6 +23,13 @@ pub ruleset place_below = (place_is_below, length-map)
 pub slots_fit : (encoding rows : ℕ) (ws : List (List Piece)) → slot_count ((number w16 0 encoding ∷ number w64 1 rows ∷ []) ++ children_pieces ws) ≤ 4
 slots_fit encoding rows [] = omega arith
 slots_fit encoding rows (w ∷ ws) = omega arith
+
+slots-of : (next : ℕ) (ps : List Piece) (p : Piece) → slots_from next (ps ++ p ∷ []) ≡ p.slot + 1
+slots-of next [] p = refl
+slots-of next (q ∷ ps) p = slots-of (q.slot + 1) ps p
+
+pub slots_behind : (ps : List Piece) (l : Listed) → slot_count (ps ++ list_piece 3 l ∷ []) ≤ 4
+slots_behind ps l = let e = slots-of 0 ps (list_piece 3 l) in omega (arith, e)
 
 -- ---- a layout by its parts
 
@@ -63,6 +70,30 @@ next_used ids ts i t lt is = ap (λ xs. all_use ids (layouts_of xs)) (next ts i 
 pub next_size : (ts : List LayoutTree) (i : ℕ) (t : LayoutTree) → i < length ts → t ≡ get_or ts i t
     → trees_size (layouts_of (drop i ts)) ≡ tree_size t + trees_size (layouts_of (drop (i + 1) ts))
 next_size ts i t lt is = ap (λ xs. trees_size (layouts_of xs)) (next ts i t lt is)
+
+-- the layouts before one, and it
+pub more_pieces : (ids : List (List ℕ)) (ts : List LayoutTree) (i : ℕ) (t : LayoutTree) → i < length ts → t ≡ get_or ts i t
+    → trees_pieces ids (layouts_of (take (i + 1) ts)) ≡ trees_pieces ids (layouts_of (take i ts)) ++ tree_pieces ids t ∷ []
+more_pieces ids [] i t lt is = absurd (omega (arith, lt))
+more_pieces ids (x ∷ ts) zero t lt is = ap (λ y. tree_pieces ids y ∷ []) (sym is)
+more_pieces ids (x ∷ ts) (suc i) t lt is =
+    let e : suc i + 1 ≡ suc (i + 1) = omega arith in
+    ap (λ n. trees_pieces ids (layouts_of (take n (x ∷ ts)))) e ∙ ap (λ ws. tree_pieces ids x ∷ ws) (more_pieces ids ts i t (omega (arith, lt)) is)
+
+pub all_pieces : (ids : List (List ℕ)) (ts : List LayoutTree) (n : ℕ) → length ts ≤ n → trees_pieces ids (layouts_of (take n ts)) ≡ trees_pieces ids (layouts_of ts)
+all_pieces ids [] zero le = refl
+all_pieces ids [] (suc n) le = refl
+all_pieces ids (x ∷ ts) zero le = absurd (omega (arith, le))
+all_pieces ids (x ∷ ts) (suc n) le = ap (λ ws. tree_pieces ids x ∷ ws) (all_pieces ids ts n (omega (arith, le)))
+
+and-right : (a b : Bool) → (a && b) ≡ true → b ≡ true
+and-right true b h = h
+and-right false b h = absurd cc
+
+-- the layouts behind one use the ids too
+pub rest_used : (ids : List (List ℕ)) (ts : List LayoutTree) (i : ℕ) (t : LayoutTree) → i < length ts → t ≡ get_or ts i t
+    → all_use ids (layouts_of (drop i ts)) ≡ true → all_use ids (layouts_of (drop (i + 1) ts)) ≡ true
+rest_used ids ts i t lt is h = and-right (uses_ids ids t) (all_use ids (layouts_of (drop (i + 1) ts))) (sym (next_used ids ts i t lt is) ∙ h)
 
 pub ruleset tree_steps = (next_pieces, next_used, next_size)
 

@@ -1,13 +1,13 @@
 //! The table of a layout, as it is written.
 ghost use Rattle.std.specs.Prelude.{◌≡◌, ◌≤◌, ◌++◌, IfOk, OnOk, List, ℕ, true, length, map, string_bytes};
-ghost use Rattle.vx_tables.specs.Block.{slot_count};
+ghost use Rattle.vx_tables.specs.Block.{Piece, slot_count, listed};
 ghost use Rattle.vx_data.specs.Layout.{layouts_of, numbers_of};
 ghost use Rattle.vx_data.specs.LayoutWritten.{kind_id, place_in, has_id, uses_ids, all_use, children_pieces, segments_pieces, node_pieces, tree_pieces, trees_pieces};
 
 use crate::{Layout, LayoutKind};
 use std::alloc::{AllocError, Global};
 use vx_base::SegmentId;
-use vx_tables::TableWriter;
+use vx_tables::{TableList, TableWriter};
 
 /// The id of a kind.
 pub(crate) fn name_of(kind: LayoutKind) -> &'static str
@@ -56,18 +56,20 @@ fn numbers(alloc: Global, segments: &[SegmentId]) -> Result<Vec<u32>, AllocError
 }
 
 /// Adds the tables of children, where there are any.
+#[tactic(auto, using(crate::proofs::LayoutTables::slots_behind))]
 fn push_children(
     alloc: Global,
     table: &mut TableWriter,
-    children: Vec<TableWriter>,
+    children: &TableList,
 ) -> Result<(), AllocError>
     requires { slot_count table.old ≤ 3 }
-    ensures { OnOk result (table.new ≡ table.old ++ children_pieces children.items) }
+    ensures value { OnOk result ((ws : List (List Piece)) → children.now ≡ listed ws → table.new ≡ table.old ++ children_pieces ws) }
+    ensures slots { OnOk result (slot_count table.new ≤ 4) }
 {
     if children.is_empty() {
         return Ok(());
     }
-    table.push_tables(alloc, 3, children)?;
+    table.push_list(alloc, 3, children)?;
     Ok(())
 }
 
@@ -89,10 +91,10 @@ fn node_of(
     alloc: Global,
     encoding: u16,
     row_count: u64,
-    children: Vec<TableWriter>,
+    children: &TableList,
     segments: &[u32],
 ) -> Result<TableWriter, AllocError>
-    ensures { IfOk result (λ table. table ≡ node_pieces encoding row_count children.items segments.now) }
+    ensures { IfOk result (λ table. (ws : List (List Piece)) → children.now ≡ listed ws → table ≡ node_pieces encoding row_count ws segments.now) }
 {
     let mut table = TableWriter::new(alloc);
     table.push_u16(alloc, 0, encoding)?;
@@ -105,18 +107,15 @@ fn node_of(
 /// The tables of layouts.
 #[cycle(writing)]
 #[tactic(auto, using(crate::proofs::LayoutTables::tree_steps))]
-fn tables_of(
-    alloc: Global,
-    layouts: &[Layout],
-    ids: &[String],
-) -> Result<Vec<TableWriter>, AllocError>
+fn tables_of(alloc: Global, layouts: &[Layout], ids: &[String]) -> Result<TableList, AllocError>
     requires used { all_use (map string_bytes ids.now) (layouts_of layouts.now) ≡ true }
     requires few { length ids.now ≤ 65536 }
-    ensures { IfOk result (λ tables. tables.items ≡ trees_pieces (map string_bytes ids.now) (layouts_of layouts.now)) }
+    ensures { IfOk result (λ tables. tables ≡ listed (trees_pieces (map string_bytes ids.now) (layouts_of layouts.now))) }
 {
-    let mut tables = Vec::new(alloc);
+    let mut tables = TableList::new(alloc);
     for at in 0..layouts.len() {
-        tables.push(table_of(alloc, &layouts[at], ids)?)?;
+        let table = table_of(alloc, &layouts[at], ids)?;
+        tables.push(&table)?;
     }
     Ok(tables)
 }
@@ -136,5 +135,5 @@ pub(crate) fn table_of(
     let encoding = encoding_of(layout.kind(), ids);
     let segments = numbers(alloc, layout.segment_ids())?;
     let children = tables_of(alloc, layout.children(), ids)?;
-    Ok(node_of(alloc, encoding, layout.row_count(), children, &segments)?)
+    Ok(node_of(alloc, encoding, layout.row_count(), &children, &segments)?)
 }

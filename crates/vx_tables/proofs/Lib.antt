@@ -9,4 +9,5 @@ pub mod ReadVectors
 pub mod Walk
 pub mod Text
 pub mod Walked
+pub mod Listing
 pub mod Numbers

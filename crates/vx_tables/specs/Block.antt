@@ -129,3 +129,30 @@ texts slot ts = vector slot (map (text 0) ts)
 
 abbrev pub tables : ℕ → List (List Piece) → Piece
 tables slot ws = vector slot (map (table 0) ws)
+
+-- ---- a list of tables
+
+-- where the offset of each table leads, from the first byte of the tables on, behind so many
+abbrev pub leads_from : ℕ → List (List Piece) → List ℕ
+leads_from behind [] = []
+leads_from behind (w ∷ ws) = (behind + vtable_size w) ∷ leads_from (behind + length (block w)) ws
+
+-- tables one behind the other
+pub record Listed : Type 0 where
+  pub leads : List ℕ
+  pub bytes : List ℕ
+
+abbrev pub listed : List (List Piece) → Listed
+listed ws = record { leads = leads_from 0 ws; bytes = flat_map block ws }
+
+-- the offsets of tables that stand at a place, the first of them at another
+abbrev pub offsets : ℕ → ℕ → List ℕ → List ℕ
+offsets at fixed [] = []
+offsets at fixed (lead ∷ leads) = u32_bytes (fixed + lead - at) ++ offsets (at + 4) fixed leads
+
+-- a vector of listed tables
+abbrev pub listed_block : Listed → List ℕ
+listed_block l = counted_block (length l.leads) (offsets 4 (4 + 4 * length l.leads) l.leads ++ l.bytes)
+
+abbrev pub list_piece : ℕ → Listed → Piece
+list_piece slot l = record { slot = slot; lead = Some 0; bytes = listed_block l }

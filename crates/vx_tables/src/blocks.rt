@@ -51,7 +51,7 @@ impl Piece {
 }
 
 /// A sum of sizes, which memory could not hold where it passes usize.
-fn sum_of(a: usize, b: usize) -> Result<usize, AllocError>
+pub(crate) fn sum_of(a: usize, b: usize) -> Result<usize, AllocError>
     ensures { IfOk result (λ n. n ≡ a + b) }
 {
     a.checked_add(b).ok_or(AllocError)

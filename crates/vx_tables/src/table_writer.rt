@@ -4,8 +4,9 @@ ghost use Rattle.std.specs.Int.{w8, w16, w32, w64};
 ghost use Rattle.vx_tables.specs.Field.{root};
 ghost use Rattle.vx_tables.specs.Standing.{IsTableAt};
 ghost use Rattle.vx_tables.specs.Writing.{Finishes};
-ghost use Rattle.vx_tables.specs.Block.{Piece as WrittenPiece, slot_count, number, size_of, text, bytes, numbers, texts, segments, table, tables, root_bytes};
+ghost use Rattle.vx_tables.specs.Block.{Piece as WrittenPiece, slot_count, number, size_of, text, bytes, numbers, texts, segments, table, tables, listed, list_piece, vtable_size, block, root_bytes};
 
+use crate::TableList;
 use crate::blocks::{push_block, push_low, vtable_size_of};
 use crate::elements_block::{
     bytes_block_of, numbers_block_of, segments_block_of, text_block_of, texts_block_of,
@@ -198,6 +199,37 @@ impl TableWriter {
         }
         let content = vector_block_of(alloc, &elements)?;
         self.push(slot, Some(0), content)
+    }
+
+    /// Adds a vector of tables that are listed.
+    #[tactic(auto, using(crate::proofs::Listing::listed_vector))]
+    pub fn push_list(
+        &mut self,
+        alloc: Global,
+        slot: usize,
+        value: &TableList,
+    ) -> Result<(), AllocError>
+        requires above { slot_count self.old ≤ slot }
+        requires below { slot < 1024 }
+        ensures value { self.new ≡ (if is_ok result then self.old ++ list_piece slot value.now ∷ [] else self.old) }
+        ensures tables { (ws : List (List WrittenPiece)) → value.now ≡ listed ws → list_piece slot value.now ≡ tables slot ws }
+    {
+        let content = value.block(alloc)?;
+        self.push(slot, Some(0), content)
+    }
+
+    /// The size of the vtable.
+    pub(crate) fn vtable_size(&self) -> usize
+        ensures { result ≡ vtable_size self.now }
+    {
+        vtable_size_of(&self.pieces)
+    }
+
+    /// Appends the block of the table.
+    pub(crate) fn push_block(&self, out: &mut Vec<u8>) -> Result<(), AllocError>
+        ensures { OnOk result (out.new.items ≡ out.old.items ++ block self.now) }
+    {
+        push_block(out, &self.pieces)
     }
 
     /// The table as an element of a vector.

@@ -1,6 +1,5 @@
-use Rattle.std.proofs.Common.{◌∙◌, ap, ◌++◌, arith}
+use Rattle.std.proofs.Common.{◌∙◌, arith}
 use Rattle.std.proofs.lemmas.List.{length-drop}
-use Rattle.vx_tables.specs.Field.{numbers_in}
 use Rattle.vx_tables.proofs.Numbers.{numbers_step}
 use Rattle.vx_tables.proofs.wire.numbers_from.Goals as goal
 
