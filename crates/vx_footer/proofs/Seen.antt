@@ -1,6 +1,6 @@
 -- The checks on the last bytes of a file are those on the file.
 use Rattle.std.proofs.Common.{◌≡◌, ℕ, ◌+◌, ◌-◌, ◌<◌, ◌≤◌, Bool, true, false, cond, List, ◌++◌, length, take, drop, refl, sym, ap, ◌∙◌, arith, length-append, Option, Some, None, Result, Ok, Err, ◌⊎◌, inl, inr}
-use Rattle.std.specs.Prelude.{nat_le, min, ◌==◌, ◌&&◌, ◌||◌, codes, is_some}
+use Rattle.std.specs.Prelude.{nat_le, min, ◌&&◌, ◌||◌, codes, is_some}
 use Rattle.std.specs.List.{list_all}
 use Rattle.std.specs.Str.{bytes_eq}
 use Rattle.std.specs.Int.{w16, from_le_bytes}

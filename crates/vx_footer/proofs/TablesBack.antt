@@ -1,10 +1,10 @@
 -- The tables of types and layouts, and the postscript, are read from what was written.
-use Rattle.std.proofs.Common.{◌≡◌, ℕ, suc, ◌+◌, ◌*◌, ◌/◌, ◌<◌, subst, ◌≤◌, ◌^◌, true, false, List, [], ◌∷◌, length, Some, None, Ok, refl, ap, ◌∙◌, arith, Option}
-use Rattle.std.specs.Int.{Width, w8, w16, w32, w64, to_le_bytes}
+use Rattle.std.proofs.Common.{◌≡◌, ℕ, suc, ◌+◌, ◌*◌, ◌/◌, ◌<◌, subst, ◌≤◌, ◌^◌, false, List, [], ◌∷◌, length, Some, None, Ok, refl, ap, ◌∙◌, arith, Option}
+use Rattle.std.specs.Int.{w8, w16, w32, w64, to_le_bytes}
 use Rattle.std.specs.List.{flat_map}
 use Rattle.std.proofs.lemmas.Nat.{from_le_bytes-to_le_bytes_4}
 use Rattle.vx_tables.specs.declared.elements.Elements.TheVariants.{Numbers, Offsets}
-use Rattle.vx_tables.specs.Block.{Piece, number, numbers, table, in_order, root_bytes}
+use Rattle.vx_tables.specs.Block.{Piece, number, numbers, table, root_bytes}
 use Rattle.vx_tables.specs.Field.{Table, root, slot, field, table_field, vector_field, element_bytes, numbers_in, numbers_of_vector}
 use Rattle.vx_tables.specs.Counted.{Counted, free, vector_of, or_empty, allowed}
 use Rattle.vx_tables.specs.Standing.{piece_at, ReadsBack}
@@ -20,11 +20,10 @@ use Rattle.vx_data.proofs.DtypeBack.{dtype_back}
 use Rattle.vx_footer.specs.declared.postscript.Postscript.{Postscript}
 use Rattle.vx_footer.specs.declared.postscript.PostscriptSegment.{PostscriptSegment}
 use Rattle.vx_footer.specs.declared.rows.Locator.{Locator}
-use Rattle.vx_footer.specs.declared.rows.MetadataRow.{MetadataRow}
 use Rattle.vx_footer.specs.declared.rows.PostscriptRow.{PostscriptRow}
 use Rattle.vx_footer.specs.declared.serializing.Places.{Places}
 use Rattle.vx_footer.specs.declared.version.FileVersion.TheVariants.{V1}
-use Rattle.vx_footer.specs.Tables.{locator, locator_field, locator_required, metadata_in, entries_of, postscript_in, postscript_table}
+use Rattle.vx_footer.specs.Tables.{locator, locator_field, locator_required, metadata_in, postscript_in, postscript_table}
 use Rattle.vx_footer.specs.Opening.{entries_checks, places_checks, postscript_checks}
 use Rattle.vx_footer.specs.Serialized.{flat_id, place_pieces, postscript_pieces, places_bytes, places}
 

@@ -1,6 +1,6 @@
 -- Metadata values: their order, and where they lie.
 use Rattle.std.proofs.Common.{◌≡◌, ℕ, ◌+◌, ◌*◌, ◌^◌, ◌<◌, ◌≤◌, Bool, true, false, List, [], ◌∷◌, ◌++◌, length, map, take, drop, get_or, refl, sym, ap, ◌∙◌, arith, add-one, drop-cons, append_assoc}
-use Rattle.std.specs.Prelude.{◌&&◌, not, ◌==◌, nat_le, nat_lt, sum_by, Result, Ok, Err, String, string_bytes}
+use Rattle.std.specs.Prelude.{◌&&◌, not, ◌==◌, nat_le, sum_by, Result, Ok, String, string_bytes}
 use Rattle.std.specs.Global.{Global}
 use Rattle.std.specs.List.{insert, list_all}
 use Rattle.std.proofs.lemmas.Bool.Decides.{nat_tests}

@@ -1,11 +1,10 @@
 -- What was written of a type or a layout are the bytes of its pieces, which are short.
 use Rattle.std.proofs.Common.{◌≡◌, ℕ, ◌<◌, ◌^◌, Bool, true, false, List, length, refl, sym, subst}
-use Rattle.std.specs.Prelude.{Ok, nat_le, nat_lt, Result}
+use Rattle.std.specs.Prelude.{Ok, nat_le, nat_lt}
 use Rattle.std.proofs.Common.{arith}
 use Rattle.std.proofs.lemmas.Bool.Decides.{nat_tests}
 use Rattle.vx_base.specs.Checks.{◌>>=◌, ◌unless◌}
 use Rattle.vx_tables.specs.Block.{Piece, root_bytes}
-use Rattle.vx_data.specs.declared.table_write_error.TableWriteError.{TableWriteError}
 use Rattle.vx_data.specs.declared.table_write_error.TableWriteError.TheVariants.{TooDeep, TooManyTables, TableTooLong}
 use Rattle.vx_data.specs.Dtype.{Dtype}
 use Rattle.vx_data.specs.DtypeWritten.{pieces_of, levels_of, visits_of, dtype_written}

@@ -1,5 +1,5 @@
 -- The footer of a file that ends in a written one is read back.
-use Rattle.std.proofs.Common.{◌≡◌, ℕ, ◌+◌, ◌<◌, ◌≤◌, ◌^◌, true, List, [], ◌∷◌, ◌++◌, length, Ok, None, Some, refl, sym, ap, subst, ◌∙◌, arith, append_assoc, length-append}
+use Rattle.std.proofs.Common.{◌≡◌, ℕ, ◌+◌, ◌<◌, ◌≤◌, ◌^◌, true, List, [], ◌∷◌, ◌++◌, length, Ok, None, refl, sym, ap, subst, ◌∙◌, arith, append_assoc, length-append}
 use Rattle.std.specs.Prelude.{nat_le}
 use Rattle.std.proofs.lemmas.Bool.{le-leb}
 use Rattle.std.proofs.lemmas.List.{append-nil}
@@ -10,9 +10,8 @@ use Rattle.vx_tables.proofs.Places.{at_left, at_right, at_move}
 use Rattle.vx_data.specs.declared.layout_kind.LayoutKind.TheVariants.{Flat}
 use Rattle.vx_data.specs.Dtype.{Dtype}
 use Rattle.vx_data.specs.DtypeTable.{dtype_checks}
-use Rattle.vx_data.specs.DtypeWritten.{pieces_of, levels_of, visits_of, HasTexts}
-use Rattle.vx_data.specs.Layout.{LayoutTree, node, no_layouts, dtype_of}
-use Rattle.vx_data.specs.LayoutTable.{layout_checks}
+use Rattle.vx_data.specs.DtypeWritten.{pieces_of}
+use Rattle.vx_data.specs.Layout.{node, no_layouts, dtype_of}
 use Rattle.vx_data.specs.LayoutWritten.{tree_pieces}
 use Rattle.vx_footer.specs.declared.version.FileVersion.TheVariants.{V1}
 use Rattle.vx_footer.specs.Footers.{FooterContent}
@@ -20,7 +19,7 @@ use Rattle.vx_footer.specs.Opening.{end_checks, tail_checks, table_bytes, segmen
 use Rattle.vx_footer.specs.Serialized.{flat_id, ids_bytes, dtype_bytes, layout_bytes, footer_bytes, places, postscript_bytes, end_marker, serialized}
 use Rattle.vx_footer.specs.Writable.{IsWritable}
 use Rattle.vx_footer.proofs.TablesBack.{dtype_checked, flat_pieces, layout_checked, postscript_with, postscript_checked, length-postscript}
-use Rattle.vx_footer.proofs.FooterBack.{segment_row, footer_row, footer_back}
+use Rattle.vx_footer.proofs.FooterBack.{segment_row, footer_back}
 use Rattle.vx_footer.proofs.TailBack.{end_back, table_back}
 
 -- ---- the checks on each table

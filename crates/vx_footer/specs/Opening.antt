@@ -27,7 +27,6 @@ use Rattle.vx_footer.specs.declared.postscript.Postscript.{Postscript}
 use Rattle.vx_footer.specs.declared.rows.Locator.{Locator}
 use Rattle.vx_footer.specs.declared.rows.MetadataRow.{MetadataRow}
 use Rattle.vx_footer.specs.declared.rows.PostscriptRow.{PostscriptRow}
-use Rattle.vx_footer.specs.FooterTable.{FooterTable}
 use Rattle.vx_footer.specs.Tables.{postscript_table, footer_table}
 use Rattle.vx_footer.specs.FileStats.{FileStats}
 use Rattle.vx_footer.specs.Footers.{FooterContent, segment_table}

@@ -1,6 +1,6 @@
 -- What a serializer writes of a footer at an offset: metadata values, the tables, the postscript that says where they
 -- lie, and the end marker. Or why it writes nothing.
-use Rattle.std.specs.Prelude.{◌≡◌, ℕ, ◌<◌, ◌+◌, ◌-◌, ◌^◌, Bool, true, false, ◌&&◌, ◌||◌, not, ◌==◌, nat_le, nat_lt, if◌then◌else◌, List, [], ◌∷◌, ◌++◌, length, map, replicate, sum_by, codes, Option, Some, None, Result, Ok, Err, String, string_bytes}
+use Rattle.std.specs.Prelude.{ℕ, ◌<◌, ◌+◌, ◌^◌, Bool, true, false, ◌&&◌, ◌||◌, not, ◌==◌, nat_le, nat_lt, if◌then◌else◌, List, [], ◌∷◌, ◌++◌, length, map, replicate, sum_by, codes, Option, Some, None, Result, Ok, String, string_bytes}
 use Rattle.std.specs.Int.{w16, to_le_bytes}
 use Rattle.std.specs.List.{list_all, list_any}
 use Rattle.std.specs.Option.{option_map}
@@ -21,7 +21,6 @@ use Rattle.vx_data.specs.StatsWritten.{entries_of, stats_pieces, stats_visits}
 use Rattle.vx_footer.specs.declared.version.FileVersion.{FileVersion}
 use Rattle.vx_footer.specs.declared.version.FileVersion.TheVariants.{V1, V2}
 use Rattle.vx_footer.specs.declared.postscript.Postscript.{Postscript}
-use Rattle.vx_footer.specs.declared.postscript.PostscriptSegment.{PostscriptSegment}
 use Rattle.vx_footer.specs.declared.postscript.PostscriptMetadata.{PostscriptMetadata}
 use Rattle.vx_footer.specs.declared.write_error.WriteError.{WriteError}
 use Rattle.vx_footer.specs.declared.write_error.WriteError.TheVariants.{TooManyMetadata, EmptyKey, LongKey, NotPermitted, TooDeep, TooManyTables, SegmentTooLong, OffsetOverflow}

@@ -1,6 +1,6 @@
 -- What the last bytes of a file tell of it, step by step.
 use Rattle.std.specs.Prelude.{◌≡◌, ℕ, ◌+◌, ◌-◌, ◌≤◌, Bool, ◌&&◌, true, false, nat_le, if◌then◌else◌, List, length, drop, Option, Some, None, Result, Ok, Err}
-use Rattle.vx_base.specs.Buffer.{Buffer, bytes_at}
+use Rattle.vx_base.specs.Buffer.{bytes_at}
 use Rattle.vx_base.specs.Checks.{◌>>=◌, ◌unless◌}
 use Rattle.vx_data.specs.Dtype.{Dtype}
 use Rattle.vx_footer.specs.declared.error.OpenError.{OpenError}

@@ -1,5 +1,5 @@
 -- The postscript and the footer's table as they stand: the grammar of each, with the visits and levels that it takes.
-use Rattle.std.specs.Prelude.{ℕ, zero, suc, ◌||◌, not, ◌==◌, List, [], ◌∷◌, take, drop, Option, Some, None, is_some}
+use Rattle.std.specs.Prelude.{ℕ, zero, suc, ◌||◌, not, ◌==◌, List, [], ◌∷◌, take, drop, Option, Some, is_some}
 use Rattle.std.specs.Int.{w8, w16, w32, w64, from_le_bytes}
 use Rattle.vx_tables.specs.declared.elements.Elements.TheVariants.{Offsets, Segments}
 use Rattle.vx_tables.specs.Field.{◌>>=◌ as ◌then◌, Table, Vector, root, field, text_field, table_field, element_bytes}

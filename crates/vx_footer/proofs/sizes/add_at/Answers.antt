@@ -1,7 +1,4 @@
-use Rattle.std.proofs.Common.{◌≡◌, ℕ, ◌+◌, Option, Some, None, sym, subst, ap, ◌∙◌}
-use Rattle.std.specs.Prelude.{cond, IsSome}
-use Rattle.std.specs.BTreeMap.{is_at}
-use Rattle.vx_data.specs.Paths.{path_cmp}
+use Rattle.std.proofs.Common.{◌≡◌, ◌+◌, Some, sym, ap, ◌∙◌}
 use Rattle.vx_footer.specs.FieldSizes.{size_at}
 use Rattle.vx_footer.proofs.PathLemmas.{at_written, at_nothing, is_there}
 use Rattle.vx_footer.proofs.sizes.add_at.Goals as goal
