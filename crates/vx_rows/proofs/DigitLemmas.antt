@@ -1,11 +1,13 @@
 -- Decimal numbers.
-use Rattle.std.proofs.Common.{◌≡◌, ℕ, zero, suc, pos, negsuc, ◌+◌, ◌*◌, ◌-◌, ◌^◌, ◌<◌, ◌≤◌, Bool, true, false, cond, List, [], ◌∷◌, length, Option, Some, None, refl, ap, sym, ◌∙◌, arith}
-use Rattle.std.specs.Prelude.{nat_lt}
+use Rattle.std.proofs.Common.{◌≡◌, ℕ, zero, suc, pos, negsuc, ◌+◌, ◌*◌, ◌/◌, ◌-◌, ◌^◌, ◌<◌, ◌≤◌, Bool, true, false, cond, List, [], ◌∷◌, length, drop, Option, Some, None, refl, ap, sym, ◌∙◌, arith}
+use Rattle.std.specs.Prelude.{nat_lt, nat_le, slice_index, ◌&&◌}
 use Rattle.std.specs.Option.{option_map, option_and_then}
 use Rattle.std.proofs.lemmas.Bool.Decides.{nat_tests}
+use Rattle.std.proofs.Math.Nat.{pow-suc, pow-le-pow_right}
 use Rattle.vx_data.specs.declared.ptype.PType.{PType}
 use Rattle.vx_data.specs.declared.ptype.PType.TheVariants.{U8, U16, U32, U64, I8, I16, I32, I64}
-use Rattle.vx_rows.specs.Written.{is_within}
+use Rattle.vx_rows.specs.Columns.{is_signed}
+use Rattle.vx_rows.specs.Written.{value_bits, is_within}
 use Rattle.vx_rows.specs.ReadValues.{is_digit, digits_in, narrow, narrowed, below_zero, within_range}
 
 pub next_digit : (n c : ℕ) (cs : List ℕ) → is_digit c ≡ true → digits_in n (c ∷ cs) ≡ digits_in (10 * n + (c - 48)) cs
@@ -56,6 +58,56 @@ digits_done n (c ∷ cs) total h none is = cc
 
 pub ruleset digit_steps = (next_digit, past_digits, no_digits, digits_fail, digits_end)
 
+-- ---- digits from a place on
+
+pub digit_at : (t : List ℕ) (at n : ℕ) → at < length t → is_digit (slice_index t at) ≡ true → digits_in n (drop at t) ≡ digits_in (10 * n + (slice_index t at - 48)) (drop (at + 1) t)
+digit_at [] at n l h = absurd (omega (arith, l))
+digit_at (c ∷ cs) zero n l h = next_digit n c cs h
+digit_at (c ∷ cs) (suc at) n l h =
+    let e : suc at + 1 ≡ suc (at + 1) = omega arith in
+    digit_at cs at n (omega (arith, l)) h ∙ ap (λ k. digits_in (10 * n + (slice_index cs at - 48)) (drop k (c ∷ cs))) (sym e)
+
+pub no_digit_at : (t : List ℕ) (at n : ℕ) → at < length t → is_digit (slice_index t at) ≡ false → digits_in n (drop at t) ≡ (n, drop at t)
+no_digit_at [] at n l h = absurd (omega (arith, l))
+no_digit_at (c ∷ cs) zero n l h = past_digits n c cs h
+no_digit_at (c ∷ cs) (suc at) n l h = no_digit_at cs at n (omega (arith, l)) h
+
+-- so few digits are no number that is too great
+pub few_digits : (at n : ℕ) → at < 18 → n < 10 ^ (at + 1) → n < 10 ^ 18
+few_digits at n l h =
+    let most : 10 ^ (at + 1) ≤ 10 ^ 18 = pow-le-pow_right {n = 10} (omega arith) {i = at + 1} {j = 18} (omega (arith, l)) in
+    omega (arith, h, most)
+
+-- a digit more
+pub digit_more : (at n d : ℕ) → n < 10 ^ (at + 1) → d < 10 → 10 * n + d < 10 ^ (at + 1 + 1)
+digit_more at n d h l =
+    let e : at + 1 + 1 ≡ suc (at + 1) = omega arith in
+    let power : 10 ^ suc (at + 1) ≡ 10 ^ (at + 1) * 10 = pow-suc 10 (at + 1) in
+    rw e (omega (arith, h, l, power))
+
+pub few_digits_end : (t : List ℕ) (at n : ℕ) (total : ℕ × List ℕ) → at < length t → at < 18 → n < 10 ^ (at + 1) → is_digit (slice_index t at) ≡ false → digits_in n (drop at t) ≡ total
+    → Some (n, drop at t) ≡ narrowed total
+few_digits_end t at n total l k h none is =
+    let small = few_digits at n k h in
+    digits_end n (drop at t) total (omega (arith, small)) (no_digit_at t at n l none) is
+
+pub digit_less : (c : ℕ) → is_digit c ≡ true → c - 48 < 10
+digit_less c h = grind (arith, nat_tests)
+
+pub ruleset place_steps = (digit_at, few_digits, digit_more, few_digits_end, digit_less)
+
+-- ---- numbers of a type
+
+pub below_bits : (p : PType) (n : ℕ) → nat_le (n / 2 ^ (value_bits p - 1)) 1 ≡ nat_lt n (2 ^ value_bits p)
+below_bits U8 n = grind (arith, nat_tests)
+below_bits U16 n = grind (arith, nat_tests)
+below_bits U32 n = grind (arith, nat_tests)
+below_bits U64 n = grind (arith, nat_tests)
+below_bits I8 n = grind (arith, nat_tests)
+below_bits I16 n = grind (arith, nat_tests)
+below_bits I32 n = grind (arith, nat_tests)
+below_bits I64 n = grind (arith, nat_tests)
+
 -- ---- integers that no type has
 
 not-below : (p : PType) (n : ℕ) → 2 ^ 64 ≤ suc n → is_within p (negsuc n) ≡ false
@@ -102,4 +154,9 @@ positive_narrowed p (Some (n, t)) = step (nat_lt n (2 ^ 64)) refl
     step true h = refl
     step false h = sym (ap (λ b. cond b (Some (pos n, t)) None) (not-above p n (at-least n h)))
 
-pub ruleset integer_steps = (negative_narrowed, positive_narrowed)
+-- the test of the range is made of the digits' number
+pub negative_tested : (p : PType) (n : ℕ) (t : List ℕ) → 0 < n → option_and_then (within_range p) (below_zero (n, t)) ≡ cond (is_signed p && nat_lt (n - 1) (2 ^ value_bits p)) (Some (negsuc (n - 1), t)) None
+negative_tested p zero t h = absurd (omega (arith, h))
+negative_tested p (suc n) t h = let e : suc n - 1 ≡ n = omega arith in rw e refl
+
+pub ruleset negative_steps = (negative_narrowed, negative_tested)

@@ -1,5 +1,5 @@
 -- The rows of fields, one name after the other.
-use Rattle.std.proofs.Common.{◌≡◌, ℕ, zero, suc, ◌+◌, ◌<◌, ◌≤◌, Bool, true, false, List, [], ◌∷◌, length, get_or, drop, refl, ap, sym, ◌∙◌, arith}
+use Rattle.std.proofs.Common.{◌≡◌, ℕ, zero, suc, ◌+◌, ◌<◌, ◌≤◌, Bool, true, false, List, [], ◌∷◌, length, get_or, drop, refl, ap, sym, ◌∙◌, arith, ◌⊎◌, inl, inr}
 use Rattle.std.specs.Prelude.{String, string_bytes, map, slice_index_or, ◌&&◌, Option, Some, None}
 use Rattle.std.specs.Option.{option_map}
 use Rattle.std.specs.Global.{Global}
@@ -11,7 +11,10 @@ use Rattle.vx_rows.specs.declared.column.Column.{Column}
 use Rattle.vx_rows.specs.declared.operand.Operand.TheVariants.{Value, Rows as RowsOf}
 use Rattle.vx_rows.specs.Columns.{Structs}
 use Rattle.vx_rows.specs.Span.{span, every}
-use Rattle.vx_rows.proofs.SpanLemmas.{get_or_span, every_all}
+use Rattle.vx_rows.specs.Bits.{present_at}
+use Rattle.vx_rows.proofs.SpanLemmas.{length_span, get_or_span, every_all, every_holds}
+use Rattle.vx_rows.proofs.WrittenLemmas.{past}
+use Rattle.std.proofs.lemmas.Bool.{cases_lt}
 use Rattle.vx_rows.specs.Rows.{Rows, FieldRows, bools, ints, texts, structs, no_columns, column, rows_len, column_view, pairs_view}
 use Rattle.vx_rows.specs.RowValues.{null, Row, flat, of_parts, cell, nth_part, part_at, if_there, row_in, parts_in}
 use Rattle.vx_rows.specs.Predicates.{path}
@@ -171,3 +174,15 @@ hides_some shown c n bits is = record {
   same = λ row less.
       ap (λ xs. slice_index_or xs row true) is ∙ get_or_span (shown_and_there shown c) 0 n row true less ∙ ap (shown_and_there shown c) (omega arith);
 }
+
+-- ---- structs of which none is null
+
+pub none_null : (present : Option (List Bool)) (count row : ℕ) → present ≡ None → slice_index_or (span (present_at present) 0 count) row true ≡ true
+none_null present count row e = ap (λ p. slice_index_or (span (present_at p) 0 count) row true) e ∙ by (cases_lt row count)
+  where
+    by : (row < count) ⊎ (count ≤ row) → slice_index_or (span (present_at None) 0 count) row true ≡ true
+    by (inl l) = get_or_span (present_at None) 0 count row true l
+    by (inr l) = let size = length_span (present_at None) 0 count in past (span (present_at None) 0 count) row true (omega (arith, size, l))
+
+pub all_there : (c : Structs) (count : ℕ) → ((row : ℕ) → slice_index_or c.present row true ≡ true) → every (is_there c) 0 count ≡ true
+all_there c count h = every_holds (is_there c) 0 count (λ i l u. h i)

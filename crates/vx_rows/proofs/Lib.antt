@@ -51,3 +51,6 @@ pub mod BehindLemmas
 pub mod PlacesLemmas
 pub mod FillingLemmas
 pub mod WholeLemmas
+pub mod EightLemmas
+pub mod LineLemmas
+pub mod LowByteLemmas

@@ -1,23 +1,18 @@
 -- The values of fields, one after the other, and lines.
-use Rattle.std.proofs.Common.{◌≡◌, ℕ, zero, suc, ◌+◌, ◌-◌, ◌<◌, ◌≤◌, Bool, true, false, List, [], ◌∷◌, ◌++◌, length, get_or, set, take, drop, Option, Some, None, Ok, Err, refl, ap, sym, ◌∙◌, add-one, drop-cons, arith}
-use Rattle.std.specs.Prelude.{string_bytes, slice_index, ◌==◌, ◌&&◌, ◌||◌, not}
-use Rattle.std.specs.List.{list_all, list_any}
-use Rattle.std.proofs.Math.Seq.{take-add}
-use Rattle.std.proofs.lemmas.List.Folds.{list_all-append}
+use Rattle.std.proofs.Common.{◌≡◌, ℕ, ◌+◌, ◌<◌, ◌≤◌, Bool, true, false, List, [], ◌∷◌, ◌++◌, length, get_or, set, take, drop, Option, Some, None, Ok, Err, refl, ap, sym, ◌∙◌, add-one, drop-cons, arith}
+use Rattle.std.specs.Prelude.{string_bytes, ◌==◌, not}
 use Rattle.std.proofs.lemmas.Bool.Decides.{nat_tests}
 use Rattle.std.specs.Option.{option_map, option_and_then}
-use Rattle.std.proofs.lemmas.List.{take_more_set, take_all, drop-set-lt, drop_all, length-drop}
+use Rattle.std.proofs.lemmas.List.{take_more_set, take_all, drop-set-lt, drop_all}
 use Rattle.vx_base.specs.Checks.{◌lacking◌}
 use Rattle.vx_data.specs.declared.text_error.TextError.TheVariants.{BadText}
 use Rattle.vx_data.specs.Texts.{comma}
 use Rattle.vx_data.specs.TextsRead.{after}
 use Rattle.vx_rows.specs.declared.builder.Builder.{Builder}
-use Rattle.vx_rows.specs.declared.rows_error.RowsError.TheVariants.{BadLine}
 use Rattle.vx_rows.specs.Rows.{Rows, FieldRows}
 use Rattle.vx_rows.specs.Trees.{before}
-use Rattle.vx_rows.specs.ReadRows.{value_in, values_in, before_fields, line_in, with_first, lines_of, rows_behind}
+use Rattle.vx_rows.specs.ReadRows.{value_in, values_in, before_fields, lines_of, rows_behind}
 use Rattle.vx_rows.specs.Builders.{builder_view, built, pairs_view}
-use Rattle.vx_rows.proofs.PlainTextLemmas.{first-of, second-of, taken_more}
 use Rattle.vx_rows.proofs.BuildingLemmas.{Field, before_built, built_end}
 
 -- fields that have their row, before what was read of the others
@@ -75,73 +70,9 @@ is_other c = not (c == 10)
 pub other-test : (c : ℕ) → is_other c ≡ true → (c == 10) ≡ false
 other-test c h = grind (arith, nat_tests)
 
-feed-test : (c : ℕ) → c ≡ 10 → (c == 10) ≡ true
-feed-test c h = grind (arith, nat_tests)
-
-pub other_more : (t : List ℕ) (n : ℕ) → n < length t → list_all is_other (take n t) ≡ true → (slice_index t n ≡ 10 → ⊥) → list_all is_other (take (n + 1) t) ≡ true
-other_more t n l h ne = taken_more is_other t n l h (grind (arith, nat_tests))
-
-pub line_fed : (t : List ℕ) (n : ℕ) → n < length t → slice_index t n ≡ 10 → list_all is_other (take n t) ≡ true → lines_of t ≡ take n t ∷ lines_of (drop (n + 1) t)
-unfolding lines_of
-line_fed [] n l feed other = absurd (omega (arith, l))
-line_fed (c ∷ cs) zero l feed other = rw (feed-test c feed) refl
-line_fed (c ∷ cs) (suc n) l feed other =
-    let e : suc n + 1 ≡ suc (n + 1) = omega arith in
-    let rest = line_fed cs n (omega (arith, l)) feed (second-of (is_other c) _ other) in
-    rw (other-test c (first-of (is_other c) _ other), rest, e) refl
-
--- the same, where what follows is cut from the text
-pub line_cut : (t : List ℕ) (n : ℕ) → n < length t → slice_index t n ≡ 10 → list_all is_other (take n t) ≡ true
-    → lines_of t ≡ take n t ∷ lines_of (take (length t - (n + 1)) (drop (n + 1) t))
-line_cut t n l feed other =
-    let size = length-drop (n + 1) t in
-    line_fed t n l feed other ∙ ap (λ xs. take n t ∷ lines_of xs) (sym (take_all (length t - (n + 1)) (drop (n + 1) t) (omega (arith, size))))
-
-pub line_unfed : (t : List ℕ) → 0 < length t → list_all is_other t ≡ true → lines_of t ≡ t ∷ []
-unfolding lines_of
-line_unfed [] some other = absurd (omega (arith, some))
-line_unfed (c ∷ []) some other = rw (other-test c (first-of (is_other c) _ other)) refl
-line_unfed (c ∷ d ∷ cs) some other =
-    let rest = line_unfed (d ∷ cs) (omega arith) (second-of (is_other c) _ other) in
-    rw (other-test c (first-of (is_other c) _ other)) (ap (with_first c) rest)
-
--- a text without a line feed
-pub line_last : (t : List ℕ) (n : ℕ) → 0 < length t → length t ≤ n → list_all is_other (take n t) ≡ true → lines_of t ≡ take (length t) t ∷ lines_of (drop (length t) t)
-unfolding lines_of
-line_last t n some past other =
-    let all : list_all is_other t ≡ true = ap (list_all is_other) (sym (take_all n t past)) ∙ other in
-    line_unfed t some all ∙ ap (λ xs. xs ∷ []) (sym (take_all (length t) t (omega arith))) ∙ ap (λ xs. take (length t) t ∷ lines_of xs) (sym (drop_all (length t) t (omega arith)))
-
-pub ruleset line_steps = (other_more, line_cut, line_last)
-
-none-fed : (w : List ℕ) → list_any (λ c. c == 10) w ≡ false → list_all is_other w ≡ true
-none-fed [] h = refl
-none-fed (c ∷ cs) h = by (c == 10) h (λ e. none-fed cs e)
-  where
-    by : (b : Bool) → (b || list_any (λ c. c == 10) cs) ≡ false → (list_any (λ c. c == 10) cs ≡ false → list_all is_other cs ≡ true) → (not b && list_all is_other cs) ≡ true
-    by true e rest = cc
-    by false e rest = rest e
-
--- a window without a line feed behind bytes without one
-pub window_more : (t : List ℕ) (n size : ℕ) → n + size ≤ length t → list_all is_other (take n t) ≡ true → list_any (λ c. c == 10) (take size (drop n t)) ≡ false → list_all is_other (take (n + size) t) ≡ true
-window_more t n size inside other none =
-    ap (list_all is_other) (take-add n size t) ∙ list_all-append is_other (take n t) (take size (drop n t)) ∙ ap (λ b. b && list_all is_other (take size (drop n t))) other ∙ none-fed (take size (drop n t)) none
-
 -- ---- rows
 
 pub rows_end : (c : Rows) (number : ℕ) (t : List ℕ) → length t ≡ 0 → rows_behind c number (lines_of t) ≡ Ok c
 unfolding rows_behind lines_of
 rows_end c number [] h = refl
 rows_end c number (b ∷ t) h = cc
-
-pub rows_more : (c d : Rows) (number : ℕ) (t line rest : List ℕ) → lines_of t ≡ line ∷ lines_of rest → (BadLine number lacking line_in c line) ≡ Ok d
-    → rows_behind d (number + 1) (lines_of rest) ≡ rows_behind c number (lines_of t)
-unfolding rows_behind
-rows_more c d number t line rest split value = sym (rw (split, value) refl)
-
-pub rows_fail : (c : Rows) (number bad : ℕ) (t line rest : List ℕ) → lines_of t ≡ line ∷ lines_of rest → (BadLine number lacking line_in c line) ≡ Err (BadLine bad)
-    → rows_behind c number (lines_of t) ≡ Err (BadLine bad)
-unfolding rows_behind
-rows_fail c number bad t line rest split value = rw (split, value) refl
-
-pub ruleset row_steps = (rows_end, rows_more, rows_fail)

@@ -1,11 +1,16 @@
 -- Truth values in a bitmap: row i is bit i % 8, from the lowest, of byte i / 8.
-use Rattle.std.specs.Prelude.{ℕ, ◌+◌, ◌*◌, ◌/◌, ◌%◌, ◌==◌, Bool, true, false, if◌then◌else◌, List, length, slice_index, slice_index_or, Option, Some, None}
+use Rattle.std.specs.Prelude.{◌∷◌, [], ℕ, ◌+◌, ◌*◌, ◌/◌, ◌%◌, ◌==◌, Bool, true, false, if◌then◌else◌, List, length, slice_index, slice_index_or, Option, Some, None}
 use Rattle.std.specs.Int.{bit_at}
 use Rattle.vx_rows.specs.Span.{span}
 
 -- bit i of the bitmap at a byte
 abbrev pub bit : List ℕ → ℕ → ℕ → Bool
 bit bytes at i = bit_at (slice_index bytes (at + i / 8)) (i % 8) == 1
+
+-- the eight bits of a byte, from the lowest on
+abbrev pub byte_bits : ℕ → List Bool
+byte_bits x = (bit_at x 0 == 1) ∷ (bit_at x 1 == 1) ∷ (bit_at x 2 == 1) ∷ (bit_at x 3 == 1)
+    ∷ (bit_at x 4 == 1) ∷ (bit_at x 5 == 1) ∷ (bit_at x 6 == 1) ∷ (bit_at x 7 == 1) ∷ []
 
 -- whether a row has a value; without a bitmap each has one
 abbrev pub present_at : Option (List Bool) → ℕ → Bool

@@ -90,6 +90,19 @@ alone x = if length x.1 == 0 then Some x.0 else None
 abbrev pub line_in : Rows → List ℕ → Option Rows
 line_in c line = option_and_then alone (value_in c line)
 
+-- what follows the end of a line: its line feed, which may lack at the end
+abbrev pub after_end : List ℕ → Option (List ℕ)
+after_end [] = Some []
+after_end (c ∷ t) = if c == 10 then Some t else None
+
+-- what comes up to the end of a line
+abbrev pub ended : Rows × List ℕ → Option (Rows × List ℕ)
+ended x = option_map (λ rest. (x.0, rest)) (after_end x.1)
+
+-- a column with the value of the first line of a text as a row more, and what follows that line
+abbrev pub row_in : Rows → List ℕ → Option (Rows × List ℕ)
+row_in c t = option_and_then ended (value_in c t)
+
 abbrev pub with_first : ℕ → List (List ℕ) → List (List ℕ)
 with_first c [] = (c ∷ []) ∷ []
 with_first c (line ∷ lines) = (c ∷ line) ∷ lines

@@ -1,8 +1,9 @@
 //! Truth values in a bitmap.
-ghost use Rattle.std.specs.Prelude.{ℕ, slice_index, ◌≡◌, ◌++◌, ◌+◌, ◌-◌, ◌*◌, ◌<◌, ◌≤◌, ◌^◌, length, slice_index_or, slice_range, true, false, IfOk, OnOk, OnErr};
+ghost use Rattle.std.specs.Prelude.{ℕ, slice_index, ◌≡◌, ◌++◌, ◌+◌, ◌-◌, ◌*◌, ◌/◌, ◌<◌, ◌≤◌, ◌^◌, length, slice_index_or, slice_range, true, false, IfOk, OnOk, OnErr};
 ghost use Rattle.std.specs.List.{list_all};
+ghost use Rattle.std.specs.Vec.{vec_len, vec_capacity};
 ghost use Rattle.vx_rows.specs.Span.{span, every};
-ghost use Rattle.vx_rows.specs.Bits.{bit, bit_value, bitmap_byte, bitmap_size, bitmap};
+ghost use Rattle.vx_rows.specs.Bits.{bit, bit_value, bitmap_byte, bitmap_size, bitmap, byte_bits};
 
 use std::alloc::{AllocError, Global};
 use std::marker::Model;
@@ -85,14 +86,53 @@ pub fn bitmap_len(rows: usize) -> usize
     rows / 8 + (rows % 8 + 7) / 8
 }
 
-/// The bitmap of rows.
+/// The value of a bit of a row: 1 where it is true.
+#[inline(always)]
+fn value_at(rows: &[bool], row: usize) -> u8
+    requires { row < length rows.now }
+    ensures { result ≡ bit_value rows.now row }
+{
+    if rows[row] { 1 } else { 0 }
+}
+
+/// A byte of the bitmap of rows, each of its eight rows.
+#[inline(always)]
+fn whole_byte_of(rows: &[bool], k: usize) -> u8
+    requires { 8 * k + 8 ≤ length rows.now }
+    ensures { result ≡ bitmap_byte rows.now k }
+{
+    let first = 8 * k;
+    let low = value_at(rows, first)
+        + 2 * value_at(rows, first + 1)
+        + 4 * value_at(rows, first + 2)
+        + 8 * value_at(rows, first + 3);
+    low + 16 * value_at(rows, first + 4)
+        + 32 * value_at(rows, first + 5)
+        + 64 * value_at(rows, first + 6)
+        + 128 * value_at(rows, first + 7)
+}
+
+/// The bytes of the bitmap of rows that are full, with room for one more.
 #[tactic(auto, using(crate::proofs::SpanLemmas::span_push))]
+fn whole_bytes_of(alloc: Global, rows: &[bool]) -> Result<Vec<u8>, AllocError>
+    ensures { IfOk result (λ bytes. bytes.items ≡ span (bitmap_byte rows.now) 0 (length rows.now / 8)) }
+{
+    let count = rows.len() / 8;
+    let mut bytes = Vec::with_capacity(alloc, count + 1)?;
+    for k in 0..count {
+        bytes.push_reserved(whole_byte_of(rows, k));
+    }
+    Ok(bytes)
+}
+
+/// The bitmap of rows.
+#[tactic(auto, using(crate::proofs::EightLemmas::bitmap_whole, crate::proofs::EightLemmas::bitmap_last))]
 pub fn bitmap_of(alloc: Global, rows: &[bool]) -> Result<Vec<u8>, AllocError>
     ensures { IfOk result (λ bytes. bytes.items ≡ bitmap rows.now) }
 {
-    let mut bytes = Vec::with_capacity(alloc, bitmap_len(rows.len()))?;
-    for k in 0..bitmap_len(rows.len()) {
-        bytes.push(byte_of(rows, k))?;
+    let mut bytes = whole_bytes_of(alloc, rows)?;
+    if rows.len() % 8 != 0 {
+        bytes.push(byte_of(rows, rows.len() / 8))?;
     }
     Ok(bytes)
 }
@@ -104,6 +144,51 @@ fn push_whole(out: &mut Vec<u8>, bytes: &[u8], from: usize, count: usize) -> Res
     ensures bytes { (i : ℕ) → slice_index bytes.now i < 2 ^ 8 }
 {
     out.extend_from_slice(&bytes[from..from + count])
+}
+
+/// Adds so many bits from one on, for which there is room.
+#[tactic(auto, using(crate::proofs::SpanLemmas::span_behind))]
+fn push_bits(rows: &mut Vec<bool>, bytes: &[u8], at: usize, first: usize, count: usize)
+    requires inside { 8 * at + first + count ≤ 8 * length bytes.now }
+    requires bound { first + count < 2 ^ 64 }
+    requires room { vec_len rows.old + count ≤ vec_capacity rows.old }
+    ensures { rows.new.items ≡ rows.old.items ++ span (bit bytes.now at) first count }
+{
+    for row in 0..count {
+        rows.push_reserved(bit_of(bytes, at, first + row));
+    }
+}
+
+/// Adds the eight bits of a byte, for which there is room.
+#[inline(always)]
+fn push_eight(rows: &mut Vec<bool>, byte: u8)
+    requires { vec_len rows.old + 8 ≤ vec_capacity rows.old }
+    ensures items { rows.new.items ≡ rows.old.items ++ byte_bits byte }
+    ensures len { vec_len rows.new ≡ vec_len rows.old + 8 }
+    ensures capacity { vec_capacity rows.new ≡ vec_capacity rows.old }
+{
+    rows.push_reserved(byte & 1 == 1);
+    rows.push_reserved((byte >> 1) & 1 == 1);
+    rows.push_reserved((byte >> 2) & 1 == 1);
+    rows.push_reserved((byte >> 3) & 1 == 1);
+    rows.push_reserved((byte >> 4) & 1 == 1);
+    rows.push_reserved((byte >> 5) & 1 == 1);
+    rows.push_reserved((byte >> 6) & 1 == 1);
+    rows.push_reserved((byte >> 7) & 1 == 1);
+}
+
+/// Adds the bits of so many bytes from one on, for which there is room.
+#[tactic(auto, using(crate::proofs::EightLemmas::eight_more))]
+fn push_eights(rows: &mut Vec<bool>, bytes: &[u8], from: usize, count: usize)
+    requires inside { from + count ≤ length bytes.now }
+    requires room { vec_len rows.old + 8 * count ≤ vec_capacity rows.old }
+    ensures items { rows.new.items ≡ rows.old.items ++ span (bit bytes.now from) 0 (8 * count) }
+    ensures len { vec_len rows.new ≡ vec_len rows.old + 8 * count }
+    ensures capacity { vec_capacity rows.new ≡ vec_capacity rows.old }
+{
+    for k in 0..count {
+        push_eight(rows, bytes[from + k]);
+    }
 }
 
 impl Bits {
@@ -197,16 +282,20 @@ impl Bits {
     }
 
     /// Adds the rows to other truth values. Only memory refuses, and then nothing changes.
-    #[tactic(auto, using(crate::proofs::SpanLemmas::span_behind))]
+    #[tactic(auto, using(crate::proofs::EightLemmas::all_behind))]
     pub(crate) fn push_rows(&self, rows: &mut Vec<bool>) -> Result<(), AllocError>
         ensures ok { OnOk result (rows.new.items ≡ rows.old.items ++ self.now) }
         ensures err { OnErr result (rows.new.items ≡ rows.old.items) }
     {
         rows.reserve(self.count)?;
         let bytes = self.held.as_slice();
-        for row in 0..self.count {
-            rows.push_reserved(bit_of(bytes, self.at, self.first + row));
+        if self.first % 8 != 0 {
+            push_bits(rows, bytes, self.at, self.first, self.count);
+            return Ok(());
         }
+        let whole = self.count / 8;
+        push_eights(rows, bytes, self.at + self.first / 8, whole);
+        push_bits(rows, bytes, self.at, self.first + 8 * whole, self.count % 8);
         Ok(())
     }
 

@@ -3,28 +3,28 @@ ghost use Rattle.std.specs.Prelude.{◌≡◌, ◌++◌, ℤ, Option, pos, true,
 ghost use Rattle.std.specs.List.{flat_map, All};
 ghost use Rattle.vx_rows.specs.Written.{is_within, value_bytes, cell};
 
+use crate::int_column::size_of;
 use std::alloc::{AllocError, Global};
 use vx_data::PType;
 
 /// Adds the bytes of a value. Where memory refuses, nothing changes.
+#[inline(always)]
+#[tactic(auto, using(crate::proofs::LowByteLemmas::low_bytes))]
 fn push_value(bytes: &mut Vec<u8>, ptype: PType, value: i128) -> Result<(), AllocError>
     requires { is_within ptype value ≡ true }
     ensures err { OnErr result (bytes.new.items ≡ bytes.old.items) }
     ensures ok { OnOk result (bytes.new.items ≡ bytes.old.items ++ value_bytes ptype value) }
 {
-    match ptype {
-        PType::U8 => bytes.extend_from_slice(&(value as u8).to_le_bytes()),
-        PType::U16 => bytes.extend_from_slice(&(value as u16).to_le_bytes()),
-        PType::U32 => bytes.extend_from_slice(&(value as u32).to_le_bytes()),
-        PType::U64 => bytes.extend_from_slice(&(value as u64).to_le_bytes()),
-        PType::I8 => bytes.extend_from_slice(&(value as i8).to_le_bytes()),
-        PType::I16 => bytes.extend_from_slice(&(value as i16).to_le_bytes()),
-        PType::I32 => bytes.extend_from_slice(&(value as i32).to_le_bytes()),
-        PType::I64 => bytes.extend_from_slice(&(value as i64).to_le_bytes()),
-    }
+    // Eight bytes are put at once, and those that the type does not have are taken off: no branch on the type.
+    let before = bytes.len();
+    let low = (value.cast_unsigned() % (1 << 64)) as u64;
+    bytes.extend_from_slice(&low.to_le_bytes())?;
+    bytes.truncate(before + size_of(ptype));
+    Ok(())
 }
 
 /// Adds the bytes of a row: of the value 0, where it is null. Where memory refuses, nothing changes.
+#[inline(always)]
 pub fn push_cell(bytes: &mut Vec<u8>, ptype: PType, row: Option<i128>) -> Result<(), AllocError>
     requires { IfSome row (λ n. is_within ptype n ≡ true) }
     ensures err { OnErr result (bytes.new.items ≡ bytes.old.items) }

@@ -15,10 +15,13 @@ use std::alloc::{AllocError, Global};
 use vx_data::{DType, FieldPath};
 
 /// Whether each of so many structs is there.
-#[tactic(auto, using(crate::proofs::SpanLemmas::every_step))]
+#[tactic(auto, using(crate::proofs::SpanLemmas::every_step, crate::proofs::FieldRowLemmas::all_there))]
 fn are_there(rows: &StructRows, count: usize) -> bool
     ensures { result ≡ every (is_there rows.now) 0 count }
 {
+    if rows.has_no_null() {
+        return true;
+    }
     for row in 0..count {
         if !rows.has(row) {
             return false;

@@ -93,7 +93,8 @@ impl Flags {
         ensures err { OnErr result (self.new ≡ self.old) }
     {
         if self.may_be_null {
-            self.flags.push(is_there)?;
+            self.flags.reserve(1)?;
+            self.flags.push_reserved(is_there);
             return Ok(());
         }
         self.count_more(1)

@@ -61,6 +61,7 @@ impl IntBuilder {
     }
 
     /// Adds a row, null only where it may be.
+    #[inline(always)]
     fn push_row(&mut self, row: Option<i128>) -> Result<(), AllocError>
         requires allowed { (self.old.nullable || is_some row) ≡ true }
         requires within { IfSome row (λ n. is_within self.old.ptype n ≡ true) }
@@ -88,12 +89,13 @@ impl IntBuilder {
     }
 
     /// Adds the value in front, and gives what follows it.
+    #[inline(always)]
     pub fn read<'a>(&mut self, text: &'a [u8]) -> Result<&'a [u8], TextError>
         ensures { Gives {A = Ints × List ℕ} FailsToRead (λ rest. (self.new, rest.now)) result
             (BadText lacking option_map (λ x. (more_ints self.old x.0, x.1)) (optional_in (number_in self.old.ptype) self.old.nullable text.now)) }
     {
         if let Some(rest) = read_null(self.present.is_nullable(), text) {
-            self.push_row(None)?;
+            self.push_absent()?;
             return Ok(rest);
         }
         match read_number(self.kind, text) {

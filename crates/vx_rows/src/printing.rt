@@ -7,6 +7,7 @@ ghost use Rattle.vx_data.specs.Texts.{is_quote_plain, quoted, comma};
 ghost use Rattle.vx_rows.specs.Rows.{rows_len, column_view, columns_view, pairs_view};
 ghost use Rattle.vx_rows.specs.ValueTexts.{optional, bool_text, value_text, fields_text, lines_text};
 
+use crate::value_reading::is_plain;
 use crate::{Column, Columns};
 use itoa::Buffer;
 use std::alloc::{AllocError, Global};
@@ -34,13 +35,6 @@ fn push_number(text: &mut String, value: Option<i128>) -> Result<(), AllocError>
             text.push_str(buffer.format(number))
         }
     }
-}
-
-/// Whether a byte stands for itself in quoted text.
-fn is_plain(byte: u8) -> bool
-    ensures { result ≡ is_quote_plain byte }
-{
-    byte.is_ascii_alphanumeric() || byte == b'_' || byte == b'.' || byte == b'-'
 }
 
 /// Whether each byte stands for itself in quoted text.

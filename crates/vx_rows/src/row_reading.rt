@@ -1,16 +1,15 @@
 //! Reads rows from text.
-ghost use Rattle.std.specs.Prelude.{◌≡◌, ◌==◌, ◌+◌, ◌<◌, ◌≤◌, not, ℕ, List, ◌∷◌, [], true, length, take, IfOk};
-ghost use Rattle.std.specs.List.{list_all, list_any};
-ghost use Rattle.std.specs.Option.{option_and_then};
+ghost use Rattle.std.specs.Prelude.{◌≡◌, ℕ, List, ◌∷◌, [], true, length, IfOk};
+ghost use Rattle.std.specs.Option.{option_map, option_and_then};
 ghost use Rattle.vx_base.specs.Checks.{Gives, ◌lacking◌};
 ghost use Rattle.vx_data.specs.Dtype.{dtype_view};
 ghost use Rattle.vx_data.specs.Texts.{comma};
 ghost use Rattle.vx_data.specs.TextsRead.{FailsToRead as FailsToReadValue, after as after_front};
 ghost use Rattle.vx_data.specs.declared.text_error.TextError.TheVariants.{BadText};
 ghost use Rattle.vx_rows.specs.declared.rows_error.RowsError.TheVariants.{BadLine};
-ghost use Rattle.vx_rows.specs.Rows.{Rows, FieldRows, column_view, dtype_of, IsColumn};
+ghost use Rattle.vx_rows.specs.Rows.{Rows, FieldRows, structs, column_view, dtype_of, IsColumn};
 ghost use Rattle.vx_rows.specs.Builders.{builder_view, builders_view, pairs_view};
-ghost use Rattle.vx_rows.specs.ReadRows.{FailsToRead, value_in, values_in, line_in, rows_behind, lines_of, rows_of};
+ghost use Rattle.vx_rows.specs.ReadRows.{FailsToRead, value_in, values_in, after_end as behind_end, row_in, rows_behind, lines_of, rows_of};
 
 use crate::builder::{Builder, Builders, begin, finish, push_absent_fields};
 use crate::flags::Flags;
@@ -18,9 +17,6 @@ use crate::value_reading::{after_byte, read_null};
 use crate::{Column, RowsError};
 use std::alloc::Global;
 use vx_data::{DType, TextError};
-
-/// How many bytes are looked at at once for a line feed.
-const WINDOW: usize = 16;
 
 /// What follows a byte, which must come.
 #[inline(always)]
@@ -34,6 +30,7 @@ fn expect(text: &[u8], byte: u8) -> Result<&[u8], TextError>
 }
 
 /// What follows a comma, which must come before each field but the first.
+#[inline(always)]
 fn expect_comma(is_first: bool, text: &[u8]) -> Result<&[u8], TextError>
     ensures { Gives FailsToReadValue (λ rest. rest.now) result (BadText lacking after_front (comma is_first) text.now) }
 {
@@ -45,6 +42,7 @@ fn expect_comma(is_first: bool, text: &[u8]) -> Result<&[u8], TextError>
 
 /// Adds the values of fields in front, and gives what follows them.
 #[cycle(reading_rows)]
+#[inline(always)]
 #[tactic(auto, using(crate::proofs::ReadingLemmas::value_steps))]
 fn read_fields<'a>(
     alloc: Global,
@@ -66,6 +64,7 @@ fn read_fields<'a>(
 
 /// Adds the value of a field in front, behind a comma where it is not the first, and gives what follows it.
 #[cycle(reading_rows)]
+#[inline(always)]
 fn read_field<'a>(
     alloc: Global,
     builder: &mut Builder,
@@ -81,7 +80,8 @@ fn read_field<'a>(
 
 /// Adds the values of a struct's fields in front, and gives what follows them.
 #[cycle(reading_rows)]
-fn read_struct<'a>(
+#[inline(always)]
+fn read_fields_of<'a>(
     alloc: Global,
     builders: &mut Builders,
     text: &'a [u8],
@@ -92,8 +92,47 @@ fn read_struct<'a>(
     read_fields(alloc, &mut builders.builders, text)
 }
 
+/// Adds the struct in front, or one that is null, and gives what follows it.
+#[cycle(reading_rows)]
+#[inline(always)]
+fn read_struct<'a>(
+    alloc: Global,
+    rows: &mut Flags,
+    builders: &mut Builders,
+    text: &'a [u8],
+) -> Result<&'a [u8], TextError>
+    ensures { Gives {A = Rows × List ℕ} FailsToReadValue (λ rest. (structs rows.new (builders_view builders.new), rest.now)) result
+        (BadText lacking value_in (structs rows.old (builders_view builders.old)) text.now) }
+{
+    if let Some(rest) = read_null(rows.is_nullable(), text) {
+        rows.push(false)?;
+        push_absent_fields(builders)?;
+        return Ok(rest);
+    }
+    let inside = expect(text, b'(')?;
+    rows.push(true)?;
+    let behind = read_fields_of(alloc, builders, inside)?;
+    expect(behind, b')')
+}
+
+/// The same by a call, for a struct within another.
+#[cycle(reading_rows)]
+#[inline(never)]
+fn read_inner_struct<'a>(
+    alloc: Global,
+    rows: &mut Flags,
+    builders: &mut Builders,
+    text: &'a [u8],
+) -> Result<&'a [u8], TextError>
+    ensures { Gives {A = Rows × List ℕ} FailsToReadValue (λ rest. (structs rows.new (builders_view builders.new), rest.now)) result
+        (BadText lacking value_in (structs rows.old (builders_view builders.old)) text.now) }
+{
+    read_struct(alloc, rows, builders, text)
+}
+
 /// Adds the value in front, and gives what follows it.
 #[cycle(reading_rows)]
+#[inline(always)]
 fn read_value<'a>(
     alloc: Global,
     builder: &mut Builder,
@@ -102,82 +141,64 @@ fn read_value<'a>(
     ensures { Gives {A = Rows × List ℕ} FailsToReadValue (λ rest. (builder_view builder.new, rest.now)) result
         (BadText lacking value_in (builder_view builder.old) text.now) }
 {
+    // Each arm unpacks its result, so that what the other arms call can't write where it is kept.
     match builder {
-        Builder::Bool(rows) => rows.read(text),
-        Builder::Int(rows) => rows.read(text),
-        Builder::Text(rows) => rows.read(alloc, text),
-        Builder::Struct(rows, builders) => {
-            if let Some(rest) = read_null(rows.is_nullable(), text) {
-                rows.push(false)?;
-                push_absent_fields(builders)?;
-                return Ok(rest);
-            }
-            let inside = expect(text, b'(')?;
-            rows.push(true)?;
-            let behind = read_struct(alloc, builders, inside)?;
-            expect(behind, b')')
-        }
+        Builder::Bool(rows) => Ok(rows.read(text)?),
+        Builder::Int(rows) => Ok(rows.read(text)?),
+        Builder::Text(rows) => Ok(rows.read(alloc, text)?),
+        Builder::Struct(rows, builders) => Ok(read_inner_struct(alloc, rows, builders, text)?),
     }
 }
 
-/// Whether there is a line feed.
+/// Adds the value in front, and gives what follows it. A struct's fields are read without a call.
 #[inline(always)]
-fn has_feed(bytes: &[u8]) -> bool
-    ensures { result ≡ list_any (λ b. b == 10) bytes.now }
+fn read_row<'a>(alloc: Global, builder: &mut Builder, text: &'a [u8]) -> Result<&'a [u8], TextError>
+    ensures { Gives {A = Rows × List ℕ} FailsToReadValue (λ rest. (builder_view builder.new, rest.now)) result
+        (BadText lacking value_in (builder_view builder.old) text.now) }
 {
-    bytes.contains(&b'\n')
-}
-
-/// How many bytes in front have no line feed, as far as whole windows tell.
-fn unfed_length(text: &[u8]) -> usize
-    ensures inside { result ≤ length text.now }
-    ensures other { list_all (λ b. not (b == 10)) (take result text.now) ≡ true }
-{
-    let mut at = 0;
-    while text.len() - at >= WINDOW && !has_feed(&text[at..at + WINDOW]) {
-        at += WINDOW;
+    match builder {
+        Builder::Struct(rows, builders) => read_struct(alloc, rows, builders, text),
+        _ => read_value(alloc, builder, text),
     }
-    at
 }
 
-/// The first line, and what follows its line feed, which may lack at the end.
-#[tactic(auto, using(crate::proofs::ReadingLemmas::line_steps))]
-fn split_line(text: &[u8]) -> (&[u8], &[u8])
-    requires { 0 < length text.now }
-    ensures value { lines_of text.now ≡ result.0.now ∷ lines_of result.1.now }
-    ensures shorter { length result.1.now < length text.now }
+/// What follows the end of a line: its line feed, which may lack at the end.
+#[inline(always)]
+fn after_end(text: &[u8]) -> Option<&[u8]>
+    ensures { option_map (λ rest. rest.now) result ≡ behind_end text.now }
 {
-    for at in unfed_length(text)..text.len() {
-        if text[at] == b'\n' {
-            return (&text[..at], &text[at + 1..]);
-        }
+    match text.split_first() {
+        None => Some(text),
+        Some((first, rest)) if *first == b'\n' => Some(rest),
+        Some(_) => None,
     }
-    text.split_at(text.len())
 }
 
-/// Adds the value that a line of this number is. A line that is none is BadLine.
-fn read_line(
+/// Adds the value that the first line is, which has this number, and gives what follows the line. A line that is none
+/// is BadLine.
+#[inline(always)]
+fn read_line<'a>(
     alloc: Global,
     builder: &mut Builder,
-    line: &[u8],
+    text: &'a [u8],
     number: u64,
-) -> Result<(), RowsError>
-    ensures { Gives {A = Rows} FailsToRead (λ _. builder_view builder.new) result
-        (BadLine number lacking line_in (builder_view builder.old) line.now) }
+) -> Result<&'a [u8], RowsError>
+    ensures { Gives {A = Rows × List ℕ} FailsToRead (λ rest. (builder_view builder.new, rest.now)) result
+        (BadLine number lacking row_in (builder_view builder.old) text.now) }
 {
-    let rest = match read_value(alloc, builder, line) {
+    let rest = match read_row(alloc, builder, text) {
         Ok(rest) => rest,
         Err(TextError::BadText) => return Err(RowsError::BadLine(number)),
         Err(TextError::OutOfMemory) => return Err(RowsError::OutOfMemory),
     };
-    if !rest.is_empty() {
-        return Err(RowsError::BadLine(number));
+    match after_end(rest) {
+        Some(behind) => Ok(behind),
+        None => Err(RowsError::BadLine(number)),
     }
-    Ok(())
 }
 
 /// Adds the rows of lines.
-#[tactic(auto, using(crate::proofs::ReadingLemmas::row_steps))]
+#[tactic(auto, using(crate::proofs::LineLemmas::text_row_steps))]
 fn read_lines(alloc: Global, builder: &mut Builder, text: &[u8]) -> Result<(), RowsError>
     ensures { Gives {A = Rows} FailsToRead (λ _. builder_view builder.new) result
         (rows_behind (builder_view builder.old) 0 (lines_of text.now)) }
@@ -185,10 +206,8 @@ fn read_lines(alloc: Global, builder: &mut Builder, text: &[u8]) -> Result<(), R
     let mut number = 0;
     let mut rest = text;
     while !rest.is_empty() {
-        let (line, behind) = split_line(rest);
-        read_line(alloc, builder, line, number)?;
+        rest = read_line(alloc, builder, rest, number)?;
         number += 1;
-        rest = behind;
     }
     Ok(())
 }

@@ -1,5 +1,5 @@
 //! Which structs of a column are not null.
-ghost use Rattle.std.specs.Prelude.{◌≡◌, ◌++◌, ◌<◌, ◌≤◌, length, map, slice_index_or, slice_range, IfOk, IfSome, Some, true, false, OnOk, OnErr};
+ghost use Rattle.std.specs.Prelude.{◌≡◌, ◌++◌, ◌<◌, ◌≤◌, ℕ, length, map, slice_index_or, slice_range, IsTrue, IfOk, IfSome, Some, true, false, OnOk, OnErr};
 ghost use Rattle.vx_rows.specs.Columns.{are_there};
 ghost use Rattle.vx_rows.specs.Span.{span};
 ghost use Rattle.vx_rows.specs.Bits.{present_at};
@@ -84,6 +84,15 @@ impl StructRows {
             return true;
         }
         self.is_present(row)
+    }
+
+    /// Whether it is plain that no row is null: none may be, or which are is not kept.
+    #[inline(always)]
+    #[tactic(auto, using(crate::proofs::FieldRowLemmas::none_null))]
+    pub(crate) fn has_no_null(&self) -> bool
+        ensures { IsTrue result → (row : ℕ) → slice_index_or self.now.present row true ≡ true }
+    {
+        self.bits.is_none()
     }
 
     /// Adds which rows are not null.

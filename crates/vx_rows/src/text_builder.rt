@@ -49,6 +49,7 @@ impl Model for TextBuilder {
 }
 
 /// Adds a text and the place behind it. Where memory refuses, nothing changes.
+#[inline(always)]
 fn push_text(bytes: &mut Vec<u8>, places: &mut TextPlaces, value: &str) -> Result<(), AllocError>
     ensures bytes { OnOk result (bytes.new.items ≡ bytes.old.items ++ value.now) }
     ensures places { OnOk result (places.new ≡ places.old ++ length bytes.new.items ∷ []) }
@@ -80,6 +81,7 @@ impl TextBuilder {
     }
 
     /// Adds a row that is there, or one that is null and has no bytes.
+    #[inline(always)]
     fn push_row(&mut self, is_there: bool, value: &str) -> Result<(), AllocError>
         requires { (self.old.nullable || is_there) ≡ true }
         ensures ok { OnOk result (self.new ≡ more_texts self.old (if is_there then Some value.now else None)) }
@@ -106,7 +108,19 @@ impl TextBuilder {
         self.push_row(!may_be_null, "")
     }
 
+    /// Adds the quoted text in front, whatever its bytes are, and gives what follows it.
+    #[inline(never)]
+    fn read_escaped<'a>(&mut self, alloc: Global, text: &'a [u8]) -> Result<&'a [u8], TextError>
+        ensures { Gives {A = Texts × List ℕ} FailsToRead (λ rest. (self.new, rest.now)) result
+            (BadText lacking option_map (λ x. (more_texts self.old (Some x.0), x.1)) (quoted_in text.now)) }
+    {
+        let (value, rest) = read_quoted(alloc, text)?;
+        self.push_row(true, value.as_str())?;
+        Ok(rest)
+    }
+
     /// Adds the value in front, and gives what follows it.
+    #[inline(always)]
     pub fn read<'a>(&mut self, alloc: Global, text: &'a [u8]) -> Result<&'a [u8], TextError>
         ensures { Gives {A = Texts × List ℕ} FailsToRead (λ rest. (self.new, rest.now)) result
             (BadText lacking option_map (λ x. (more_texts self.old x.0, x.1)) (optional_in quoted_in self.old.nullable text.now)) }
@@ -119,9 +133,8 @@ impl TextBuilder {
             self.push_row(true, value)?;
             return Ok(rest);
         }
-        let (value, rest) = read_quoted(alloc, text)?;
-        self.push_row(true, value.as_str())?;
-        Ok(rest)
+        // The result is unpacked, so that what is called can't write where the caller keeps it.
+        Ok(self.read_escaped(alloc, text)?)
     }
 
     /// The column of the rows.

@@ -119,6 +119,23 @@ fn length_between(places: &SharedPlaces, row: usize) -> [u8; 4]
     ((length % (1 << 32)) as u32).to_le_bytes()
 }
 
+/// Fills room with the lengths of rows from one on, where each place is kept in four bytes.
+#[inline(always)]
+fn fill_narrow_lengths(room: &mut [u8], places: &[u32], first: usize, count: usize)
+    requires room { 4 * count ≤ length room.old }
+    requires inside { first + count < length places.now }
+    requires ordered { (row : ℕ) → row + 1 < length places.now → slice_index places.now row ≤ slice_index places.now (row + 1) }
+    ensures long { length room.new ≡ length room.old }
+    ensures filled { take (4 * count) room.new ≡ flat_map (to_le_bytes w32) (span (length_from places.now) first count) }
+{
+    for k in 0..count {
+        let at = 4 * k;
+        let row = first + k;
+        let length = places[row + 1] - places[row];
+        room[at..at + 4].copy_from_slice(&length.to_le_bytes());
+    }
+}
+
 /// Fills room with the lengths of rows from one on.
 #[inline(always)]
 fn fill_lengths(room: &mut [u8], places: &SharedPlaces, first: usize, count: usize)
@@ -129,6 +146,10 @@ fn fill_lengths(room: &mut [u8], places: &SharedPlaces, first: usize, count: usi
     ensures long { length room.new ≡ length room.old }
     ensures filled { take (4 * count) room.new ≡ flat_map (to_le_bytes w32) (span (length_from places.now) first count) }
 {
+    if let Some(narrow) = places.as_narrow() {
+        fill_narrow_lengths(room, narrow, first, count);
+        return;
+    }
     for k in 0..count {
         let at = 4 * k;
         room[at..at + 4].copy_from_slice(&length_between(places, first + k));

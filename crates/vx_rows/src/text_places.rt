@@ -99,7 +99,8 @@ impl TextPlaces {
         ensures err { OnErr result (self.new ≡ self.old) }
     {
         if self.wide.is_empty() && place <= u32::MAX as usize {
-            self.narrow.push(place as u32)?;
+            self.narrow.reserve(1)?;
+            self.narrow.push_reserved(place as u32);
         } else {
             self.wide.push(place)?;
         }

@@ -1,15 +1,29 @@
 //! Reads the texts of values.
-ghost use Rattle.std.specs.Prelude.{◌≡◌, ◌∷◌, [], ◌+◌, ◌*◌, ◌-◌, ◌<◌, ◌≤◌, ◌^◌, true, false, Some, IfSome, length, take, slice_index};
+ghost use Rattle.std.specs.Prelude.{◌≡◌, ◌∷◌, [], ◌+◌, ◌*◌, ◌-◌, ◌<◌, ◌≤◌, ◌^◌, pos, nat_lt, true, false, Some, IfSome, length, take, drop, slice_index};
 ghost use Rattle.std.specs.List.{list_all};
 ghost use Rattle.std.specs.Option.{option_map, option_and_then};
 ghost use Rattle.vx_data.specs.Texts.{is_quote_plain};
 ghost use Rattle.vx_data.specs.TextsRead.{quoted_in, after as after_front};
-ghost use Rattle.vx_rows.specs.Written.{is_within as within};
-ghost use Rattle.vx_rows.specs.ReadValues.{null_in, truth_in, is_digit as is_decimal, digits_in, natural_in, integer_in, narrow, narrowed, below_zero, within_range, number_in};
-ghost use Rattle.vx_data.specs.declared.ptype.PType.{PType};
+ghost use Rattle.vx_rows.specs.Columns.{is_signed as signed};
+ghost use Rattle.vx_rows.specs.Written.{value_bits};
+ghost use Rattle.vx_rows.specs.ReadValues.{null_in, truth_in, is_digit as is_decimal, digits_in, natural_in, narrow, narrowed, below_zero, within_range, number_in};
 
 use crate::text_column::text_of;
 use vx_data::{PType, after};
+
+/// So many digits behind a first one spell a number below 2^64, whatever they are.
+const SHORT: usize = 18;
+
+/// Each byte that stands for itself in quoted text, at its own place, and a comma at every other place.
+static PLAIN: [u8; 256] = *b"\
+    ,,,,,,,,,,,,,,,,,,,,,,,,,,,,,,,,\
+    ,,,,,,,,,,,,,-.,0123456789,,,,,,\
+    ,ABCDEFGHIJKLMNOPQRSTUVWXYZ,,,,_\
+    ,abcdefghijklmnopqrstuvwxyz,,,,,\
+    ,,,,,,,,,,,,,,,,,,,,,,,,,,,,,,,,\
+    ,,,,,,,,,,,,,,,,,,,,,,,,,,,,,,,,\
+    ,,,,,,,,,,,,,,,,,,,,,,,,,,,,,,,,\
+    ,,,,,,,,,,,,,,,,,,,,,,,,,,,,,,,,";
 
 /// What follows a byte, where it comes first.
 #[inline(always)]
@@ -62,9 +76,18 @@ fn with_digit(number: u64, digit: u8) -> Option<u64>
     tens.checked_add(u64::from(digit - b'0'))
 }
 
+/// What stands from a place on.
+#[inline(always)]
+fn behind(text: &[u8], at: usize) -> &[u8]
+    requires { at ≤ length text.now }
+    ensures { result.now ≡ drop at text.now }
+{
+    text.split_at(at).1
+}
+
 /// The number whose first digits spell this one, where it is below 2^64, and what follows its digits.
 #[tactic(auto, using(crate::proofs::DigitLemmas::digit_steps))]
-fn read_digits(first: u64, text: &[u8]) -> Option<(u64, &[u8])>
+fn read_long(first: u64, text: &[u8]) -> Option<(u64, &[u8])>
     ensures { option_map (λ x. (x.0, x.1.now)) result ≡ narrowed (digits_in first text.now) }
 {
     let mut number = first;
@@ -79,7 +102,27 @@ fn read_digits(first: u64, text: &[u8]) -> Option<(u64, &[u8])>
     Some((number, rest))
 }
 
+/// The number whose first digit is this one, where it is below 2^64, and what follows its digits.
+#[inline(always)]
+#[tactic(auto, using(crate::proofs::DigitLemmas::place_steps))]
+fn read_digits(first: u64, text: &[u8]) -> Option<(u64, &[u8])>
+    requires { first < 10 }
+    ensures { option_map (λ x. (x.0, x.1.now)) result ≡ narrowed (digits_in first text.now) }
+{
+    let mut number = first;
+    let short = text.len().min(SHORT);
+    for at in 0..short {
+        let digit = text[at];
+        if !is_digit(digit) {
+            return Some((number, behind(text, at)));
+        }
+        number = 10 * number + u64::from(digit - b'0');
+    }
+    read_long(number, behind(text, short))
+}
+
 /// A decimal number below 2^64, and what follows.
+#[inline(always)]
 #[tactic(auto, unfolding(crate::specs::ReadValues::natural_in))]
 fn read_natural(text: &[u8]) -> Option<(u64, &[u8])>
     ensures { option_map (λ x. (x.0, x.1.now)) result ≡ option_and_then narrowed (natural_in text.now) }
@@ -94,66 +137,90 @@ fn read_natural(text: &[u8]) -> Option<(u64, &[u8])>
     read_digits(u64::from(*digit - b'0'), tail)
 }
 
-/// Whether a number is in the range of a type.
-fn is_within(ptype: PType, number: i128) -> bool
-    ensures { result ≡ within ptype number }
+/// How many bits the numbers of a type have below the highest, besides their sign.
+#[inline(always)]
+fn low_bits(ptype: PType) -> u32
+    ensures value { result ≡ value_bits ptype - 1 }
+    ensures few { result < 64 }
 {
     match ptype {
-        PType::U8 => number >= 0 && number <= i128::from(u8::MAX),
-        PType::U16 => number >= 0 && number <= i128::from(u16::MAX),
-        PType::U32 => number >= 0 && number <= i128::from(u32::MAX),
-        PType::U64 => number >= 0 && number <= i128::from(u64::MAX),
-        PType::I8 => number >= i128::from(i8::MIN) && number <= i128::from(i8::MAX),
-        PType::I16 => number >= i128::from(i16::MIN) && number <= i128::from(i16::MAX),
-        PType::I32 => number >= i128::from(i32::MIN) && number <= i128::from(i32::MAX),
-        PType::I64 => number >= i128::from(i64::MIN) && number <= i128::from(i64::MAX),
+        PType::U8 => 7,
+        PType::U16 => 15,
+        PType::U32 => 31,
+        PType::U64 => 63,
+        PType::I8 => 6,
+        PType::I16 => 14,
+        PType::I32 => 30,
+        PType::I64 => 62,
     }
 }
 
-/// A number below 0, behind its sign, and what follows.
-fn read_negative(text: &[u8]) -> Option<(i128, &[u8])>
-    ensures { option_map (λ x. (x.0, x.1.now)) result ≡ option_and_then below_zero (option_and_then narrowed (natural_in text.now)) }
+/// Whether a number has no more bits than those of a type, besides their sign.
+#[inline(always)]
+#[tactic(auto, using(crate::proofs::DigitLemmas::below_bits))]
+fn fits_bits(ptype: PType, number: u64) -> bool
+    ensures { result ≡ nat_lt number (2 ^ value_bits ptype) }
+{
+    number >> low_bits(ptype) <= 1
+}
+
+/// Whether a type has numbers below 0.
+fn is_signed(ptype: PType) -> bool
+    ensures { result ≡ signed ptype }
+{
+    match ptype {
+        PType::U8 | PType::U16 | PType::U32 | PType::U64 => false,
+        PType::I8 | PType::I16 | PType::I32 | PType::I64 => true,
+    }
+}
+
+/// A number below 0 in the range of a type, behind its sign, and what follows.
+#[inline(never)]
+#[tactic(auto, using(crate::proofs::DigitLemmas::negative_steps))]
+fn read_negative(ptype: PType, text: &[u8]) -> Option<(i128, &[u8])>
+    ensures { option_map (λ x. (x.0, x.1.now)) result ≡ option_and_then (within_range ptype) (option_and_then below_zero (natural_in text.now)) }
 {
     let (number, rest) = read_natural(text)?;
-    if number == 0 {
+    if number == 0 || !is_signed(ptype) || !fits_bits(ptype, number - 1) {
         return None;
     }
     Some((-i128::from(number), rest))
 }
 
-/// An integer, and what follows. One that no type has may be missed.
-#[tactic(auto, using(crate::proofs::DigitLemmas::integer_steps))]
-fn read_integer(text: &[u8]) -> Option<(i128, &[u8])>
-    ensures { (p : PType) → option_and_then (within_range p) (option_map (λ x. (x.0, x.1.now)) result) ≡ number_in p text.now }
+/// A number in the range of a type that is not below 0, and what follows.
+#[inline(always)]
+#[tactic(auto, using(crate::proofs::DigitLemmas::positive_narrowed))]
+fn read_positive(ptype: PType, text: &[u8]) -> Option<(i128, &[u8])>
+    ensures { option_map (λ x. (x.0, x.1.now)) result ≡ option_and_then (within_range ptype) (option_map (λ x. (pos x.0, x.1)) (natural_in text.now)) }
 {
-    if let Some(behind) = after_byte(text, b'-') {
-        return read_negative(behind);
-    }
     let (number, rest) = read_natural(text)?;
+    if !fits_bits(ptype, number) {
+        return None;
+    }
     Some((i128::from(number), rest))
 }
 
 /// An integer in the range of a type, and what follows.
+#[inline(always)]
 pub fn read_number(ptype: PType, text: &[u8]) -> Option<(i128, &[u8])>
     ensures { option_map (λ x. (x.0, x.1.now)) result ≡ number_in ptype text.now }
 {
-    let (number, rest) = read_integer(text)?;
-    if is_within(ptype, number) {
-        Some((number, rest))
-    } else {
-        None
+    if let Some(number) = after_byte(text, b'-') {
+        return read_negative(ptype, number);
     }
+    read_positive(ptype, text)
 }
 
 /// Whether a byte stands for itself in quoted text.
 #[inline(always)]
-fn is_plain(byte: u8) -> bool
+pub fn is_plain(byte: u8) -> bool
     ensures { result ≡ is_quote_plain byte }
 {
-    byte.is_ascii_alphanumeric() || byte == b'_' || byte == b'.' || byte == b'-'
+    PLAIN[byte as usize] != b','
 }
 
 /// How many bytes that stand for themselves come first.
+#[inline(always)]
 #[tactic(auto, using(crate::proofs::PlainTextLemmas::plain_more))]
 fn plain_length(text: &[u8]) -> usize
     ensures inside { result ≤ length text.now }
@@ -169,6 +236,7 @@ fn plain_length(text: &[u8]) -> usize
 }
 
 /// Quoted text whose bytes all stand for themselves, and what follows.
+#[inline(always)]
 #[tactic(auto, using(crate::proofs::PlainTextLemmas::plain_utf8, crate::proofs::PlainTextLemmas::plain_read))]
 pub fn read_plain(text: &[u8]) -> Option<(&str, &[u8])>
     ensures { IfSome result (λ x. quoted_in text.now ≡ Some (x.0.now, x.1.now)) }
