@@ -12,7 +12,7 @@ use Rattle.std.specs.declared.cmp.Ordering.TheVariants.{Less, Equal, Greater}
 use Rattle.vx_sched.specs.Entries.{Entries, entry_at, if_waits, polled_in, after, with_stage, change_found, changed, all_changed}
 use Rattle.vx_sched.specs.Merging.{is_listed}
 use Rattle.vx_sched.specs.declared.request.ReadRequest.{ReadRequest}
-use Rattle.vx_sched.specs.declared.read.Read.{Read}
+use Rattle.vx_sched.specs.Stored.{Read}
 use Rattle.vx_sched.specs.declared.read.Stage.{Stage}
 use Rattle.vx_sched.specs.declared.read.Stage.TheVariants.{Registered, Polled, InFlight, Resolved}
 use Rattle.vx_sched.specs.declared.read.Change.{Change}

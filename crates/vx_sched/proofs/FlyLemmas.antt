@@ -15,7 +15,7 @@ use Rattle.vx_sched.proofs.GroupLemmas.{AreThose, flight, among, group-listed, g
 use Rattle.vx_sched.proofs.ChangeLemmas.{step}
 use Rattle.vx_sched.proofs.SeenLemmas.{Stands, view, known-along, seen-at, take-numbers, resolve-numbers}
 use Rattle.vx_sched.specs.declared.request.ReadRequest.{ReadRequest}
-use Rattle.vx_sched.specs.declared.read.Read.{Read}
+use Rattle.vx_sched.specs.Stored.{Read}
 use Rattle.vx_sched.specs.declared.read.Stage.{Stage}
 use Rattle.vx_sched.specs.declared.read.Stage.TheVariants.{Registered, Polled, InFlight, Resolved}
 use Rattle.vx_sched.specs.declared.read.Change.TheVariants.{Take, Resolve}

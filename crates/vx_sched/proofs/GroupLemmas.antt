@@ -15,7 +15,7 @@ use Rattle.vx_sched.specs.Entries.{Entries, entry_at, flies_under, group}
 use Rattle.vx_sched.proofs.InsertLemmas.{and-true, insert-order, insert-all, is_listed-insert}
 use Rattle.vx_sched.proofs.EntriesLemmas.{above-none}
 use Rattle.vx_sched.specs.declared.request.ReadRequest.{ReadRequest}
-use Rattle.vx_sched.specs.declared.read.Read.{Read}
+use Rattle.vx_sched.specs.Stored.{Read}
 
 -- each of some reads is the one of its number
 abbrev pub AreThose : (ℕ → Option ReadRequest) → List ReadRequest → Type 0

@@ -14,6 +14,7 @@ pub mod SoundLemmas
 pub mod LawLemmas
 pub mod LawRuns
 pub mod BatchLemmas
+pub mod BitLemmas
 pub mod ChainLemmas
 pub mod CallLemmas
 pub mod PollLemmas

@@ -1,5 +1,5 @@
 -- Values by number, in slots.
-use Rattle.std.proofs.Common.{◌≡◌, ℕ, suc, zero, ◌+◌, ◌-◌, ◌<◌, ◌≤◌, ◌==◌, ◌++◌, Bool, get_or, true, false, cond, List, [], ◌∷◌, length, Option, Some, None, is_some, unwrap_or, take, drop, refl, ap, sym, ◌∙◌, subst, arith}
+use Rattle.std.proofs.Common.{◌≡◌, ℕ, suc, zero, ◌+◌, ◌<◌, ◌≤◌, ◌==◌, Bool, get_or, true, false, cond, List, [], ◌∷◌, length, Option, Some, None, is_some, refl, ap, sym, ◌∙◌, subst, arith}
 use Rattle.std.proofs.lemmas.Bool.Decides.{nat_tests}
 use Rattle.std.proofs.lemmas.Bool.{cases_lt}
 use Rattle.std.proofs.Math.Logic.{⊎_elim}
@@ -12,7 +12,7 @@ use Rattle.std.specs.Ordering.{nat_cmp, match_ordering}
 use Rattle.std.specs.declared.cmp.Ordering.{Ordering}
 use Rattle.std.specs.declared.cmp.Ordering.TheVariants.{Less, Equal, Greater}
 use Rattle.vx_sched.specs.Numbered.{held, with_value, is_full, RiseFrom, IsGap, IsSlot}
-use Rattle.vx_sched.specs.Polls.{is_raised, has_flag}
+use Rattle.vx_sched.specs.Polls.{word_at, or_zero, IsUp}
 use Rattle.vx_sched.specs.declared.numbered.Slot.{Slot}
 
 -- each number is at or above the first
@@ -368,85 +368,48 @@ pub removed_lookup : {V : Type 0} (slots : List (Slot V)) (es new : List (ℕ ×
 removed_lookup slots es new n r v h q =
     ap (λ xs. lookup (is_at (nat_cmp q)) xs) h ∙ subst (λ xs. lookup (is_at (nat_cmp q)) (remove_entry (is_at (nat_cmp n)) xs) ≡ cond (is_at (nat_cmp n) q) None (lookup (is_at (nat_cmp q)) xs)) v (remove_lookup 0 slots r n q)
 
--- a flag is not raised where no slot of its number has one that is, and there is none where no slot has one
-unraised : (slots : List (Slot Bool)) (q : ℕ) → ((i : ℕ) (x : Slot Bool) → slice_get slots i ≡ Some x → x.number ≡ q → x.value ≡ Some true → ⊥) → is_raised (held slots) q ≡ false
+-- a block has no bit set where no slot of its number has one
+unraised : (slots : List (Slot ℕ)) (q : ℕ) → ((i : ℕ) (x : Slot ℕ) → slice_get slots i ≡ Some x → x.number ≡ q → IsUp x.value → ⊥) → word_at (held slots) q ≡ 0
 unraised [] q h = refl
 unraised (s ∷ ss) q h = by (unraised ss q (λ i x. h (suc i) x)) s.value refl
   where
-    at : is_raised (held ss) q ≡ false → (v : Bool) → s.value ≡ Some v → (b : Bool) → (q == s.number) ≡ b
-        → unwrap_or (cond b (Some v) (lookup (is_at (nat_cmp q)) (held ss))) false ≡ false
+    at : word_at (held ss) q ≡ 0 → (v : ℕ) → s.value ≡ Some v → (b : Bool) → (q == s.number) ≡ b → or_zero (cond b (Some v) (lookup (is_at (nat_cmp q)) (held ss))) ≡ 0
     at k v e false n = k
-    at k false e true n = refl
-    at k true e true n = absurd (h 0 s refl (grind (arith, nat_tests)) e)
+    at k zero e true n = refl
+    at k (suc v) e true n = absurd (h 0 s refl (grind (arith, nat_tests)) (subst IsUp (sym e) (omega arith)))
 
-    by : is_raised (held ss) q ≡ false → (o : Option Bool) → s.value ≡ o → is_raised (with_value s.number o (held ss)) q ≡ false
+    by : word_at (held ss) q ≡ 0 → (o : Option ℕ) → s.value ≡ o → word_at (with_value s.number o (held ss)) q ≡ 0
     by k None e = k
-    by k (Some v) e = ap (λ b. unwrap_or (cond b (Some v) (lookup (is_at (nat_cmp q)) (held ss))) false) (at-eq q s.number) ∙ at k v e (q == s.number) refl
+    by k (Some v) e = ap (λ b. or_zero (cond b (Some v) (lookup (is_at (nat_cmp q)) (held ss)))) (at-eq q s.number) ∙ at k v e (q == s.number) refl
 
-unflagged : (slots : List (Slot Bool)) (q : ℕ) → ((i : ℕ) (x : Slot Bool) → slice_get slots i ≡ Some x → x.number ≡ q → is_some x.value ≡ true → ⊥) → has_flag (held slots) q ≡ false
-unflagged [] q h = refl
-unflagged (s ∷ ss) q h = by (unflagged ss q (λ i x. h (suc i) x)) s.value refl
-  where
-    at : has_flag (held ss) q ≡ false → (v : Bool) → s.value ≡ Some v → (b : Bool) → (q == s.number) ≡ b
-        → is_some (cond b (Some v) (lookup (is_at (nat_cmp q)) (held ss))) ≡ false
-    at k v e false n = k
-    at k v e true n = absurd (h 0 s refl (grind (arith, nat_tests)) (ap is_some e))
-
-    by : has_flag (held ss) q ≡ false → (o : Option Bool) → s.value ≡ o → has_flag (with_value s.number o (held ss)) q ≡ false
-    by k None e = k
-    by k (Some v) e = ap (λ b. is_some (cond b (Some v) (lookup (is_at (nat_cmp q)) (held ss)))) (at-eq q s.number) ∙ at k v e (q == s.number) refl
-
--- the slots from a number on that were looked at have no such value
-abbrev pub Skipped : (Option Bool → Type 0) → List (Slot Bool) → ℕ → ℕ → Type 0
-Skipped P slots from at = (i : ℕ) (x : Slot Bool) → slice_get slots i ≡ Some x → i < at → from ≤ x.number → P x.value → ⊥
+-- the slots from a number on that were looked at have no bit set
+abbrev pub Skipped : List (Slot ℕ) → ℕ → ℕ → Type 0
+Skipped slots from at = (i : ℕ) (x : Slot ℕ) → slice_get slots i ≡ Some x → i < at → from ≤ x.number → IsUp x.value → ⊥
 
 -- none from the number on and before the slot has one
-pub skipped_before : (P : Option Bool → Type 0) (slots : List (Slot Bool)) (from at : ℕ) (d : Slot Bool) → RiseFrom 0 slots → at < length slots → Skipped P slots from at
-    → (q : ℕ) → from ≤ q → q < (get_or slots at d).number → (i : ℕ) (x : Slot Bool) → slice_get slots i ≡ Some x → x.number ≡ q → P x.value → ⊥
-skipped_before P slots from at d r w k q f b i x h e p =
-    ⊎_elim (λ l. k i x h l (omega (arith, e, f)) p) (λ l. let c : (get_or slots at d).number ≤ x.number = hit_above slots at d (get_or slots at d).number r w (omega arith) i x h l in absurd (omega (arith, c, e, b))) (cases_lt i at)
+pub skipped_before : (slots : List (Slot ℕ)) (from at : ℕ) (d : Slot ℕ) → RiseFrom 0 slots → at < length slots → Skipped slots from at
+    → (q : ℕ) → from ≤ q → q < (get_or slots at d).number → word_at (held slots) q ≡ 0
+skipped_before slots from at d r w k q f b = unraised slots q (λ i x h e p.
+    ⊎_elim (λ l. k i x h l (omega (arith, e, f)) p) (λ l. let c : (get_or slots at d).number ≤ x.number = hit_above slots at d (get_or slots at d).number r w (omega arith) i x h l in absurd (omega (arith, c, e, b))) (cases_lt i at))
 
 -- none from the number on at all
-pub skipped_all : (P : Option Bool → Type 0) (slots : List (Slot Bool)) (from at : ℕ) → length slots ≤ at → Skipped P slots from at
-    → (q : ℕ) → from ≤ q → (i : ℕ) (x : Slot Bool) → slice_get slots i ≡ Some x → x.number ≡ q → P x.value → ⊥
-skipped_all P slots from at w k q f i x h e p = let l : i < length slots = slice_get_within slots i x h in k i x h (omega (arith, l, w)) (omega (arith, e, f)) p
+pub skipped_all : (slots : List (Slot ℕ)) (from at : ℕ) → length slots ≤ at → Skipped slots from at → (q : ℕ) → from ≤ q → word_at (held slots) q ≡ 0
+skipped_all slots from at w k q f = unraised slots q (λ i x h e p. let l : i < length slots = slice_get_within slots i x h in k i x h (omega (arith, l, w)) (omega (arith, e, f)) p)
 
 -- one more slot
-pub skipped_more : (P : Option Bool → Type 0) (slots : List (Slot Bool)) (from at : ℕ) (d : Slot Bool) → at < length slots → Skipped P slots from at → (P (get_or slots at d).value → ⊥)
-    → Skipped P slots from (at + 1)
-skipped_more P slots from at d w k none i x h l f p = ⊎_elim (λ l. k i x h l f p) (λ g. none (same (omega (arith, l, g)))) (cases_lt i at)
+pub skipped_more : (slots : List (Slot ℕ)) (from at : ℕ) (d : Slot ℕ) → at < length slots → Skipped slots from at → (IsUp (get_or slots at d).value → ⊥) → Skipped slots from (at + 1)
+skipped_more slots from at d w k none i x h l f p = ⊎_elim (λ l. k i x h l f p) (λ g. none (same (omega (arith, l, g)))) (cases_lt i at)
   where
-    same : i ≡ at → P (get_or slots at d).value
-    same e = let there : Some x ≡ Some (get_or slots at d) = sym h ∙ ap (slice_get slots) e ∙ slice_get-get_or slots at d w in let y : x ≡ get_or slots at d = cc in subst (λ (z : Slot Bool). P z.value) y p
+    same : i ≡ at → IsUp (get_or slots at d).value
+    same e = let there : Some x ≡ Some (get_or slots at d) = sym h ∙ ap (slice_get slots) e ∙ slice_get-get_or slots at d w in let y : x ≡ get_or slots at d = cc in subst (λ (z : Slot ℕ). IsUp z.value) y p
 
-pub skipped_start : (P : Option Bool → Type 0) (slots : List (Slot Bool)) (from at : ℕ) → ((i : ℕ) (x : Slot Bool) → slice_get slots i ≡ Some x → i < at → x.number < from) → Skipped P slots from at
-skipped_start P slots from at below i x h l f p = let b : x.number < from = below i x h l in absurd (omega (arith, b, f))
+pub skipped_start : (slots : List (Slot ℕ)) (from at : ℕ) → ((i : ℕ) (x : Slot ℕ) → slice_get slots i ≡ Some x → i < at → x.number < from) → Skipped slots from at
+skipped_start slots from at below i x h l f p = let b : x.number < from = below i x h l in absurd (omega (arith, b, f))
 
--- whether a flag is raised, or there
-abbrev pub IsUp : Option Bool → Type 0
-IsUp o = o ≡ Some true
-
-abbrev pub IsThere : Option Bool → Type 0
-IsThere o = is_some o ≡ true
-
-pub lowered_before : (slots : List (Slot Bool)) (from at : ℕ) (d : Slot Bool) → RiseFrom 0 slots → at < length slots → Skipped IsUp slots from at
-    → (q : ℕ) → from ≤ q → q < (get_or slots at d).number → is_raised (held slots) q ≡ false
-lowered_before slots from at d r w k q f b = unraised slots q (λ i x h e p. skipped_before IsUp slots from at d r w k q f b i x h e p)
-
-pub lowered_all : (slots : List (Slot Bool)) (from at : ℕ) → length slots ≤ at → Skipped IsUp slots from at → (q : ℕ) → from ≤ q → is_raised (held slots) q ≡ false
-lowered_all slots from at w k q f = unraised slots q (λ i x h e p. skipped_all IsUp slots from at w k q f i x h e p)
-
-pub flagless_before : (slots : List (Slot Bool)) (from at : ℕ) (d : Slot Bool) → RiseFrom 0 slots → at < length slots → Skipped IsThere slots from at
-    → (q : ℕ) → from ≤ q → q < (get_or slots at d).number → has_flag (held slots) q ≡ false
-flagless_before slots from at d r w k q f b = unflagged slots q (λ i x h e p. skipped_before IsThere slots from at d r w k q f b i x h e p)
-
-pub flagless_all : (slots : List (Slot Bool)) (from at : ℕ) → length slots ≤ at → Skipped IsThere slots from at → (q : ℕ) → from ≤ q → has_flag (held slots) q ≡ false
-flagless_all slots from at w k q f = unflagged slots q (λ i x h e p. skipped_all IsThere slots from at w k q f i x h e p)
-
--- the flag of a slot
-pub raised_here : (slots : List (Slot Bool)) (at : ℕ) (d : Slot Bool) → RiseFrom 0 slots → at < length slots → (get_or slots at d).value ≡ Some true → is_raised (held slots) (get_or slots at d).number ≡ true
-raised_here slots at d r w e = ap (λ o. unwrap_or o false) (held_at 0 slots r at (get_or slots at d) (slice_get-get_or slots at d w) ∙ e)
+-- the word of a slot
+pub raised_here : (slots : List (Slot ℕ)) (at : ℕ) (d : Slot ℕ) → RiseFrom 0 slots → at < length slots → IsUp (get_or slots at d).value → 0 < word_at (held slots) (get_or slots at d).number
+raised_here slots at d r w e = subst IsUp (sym (held_at 0 slots r at (get_or slots at d) (slice_get-get_or slots at d w))) e
 
 -- what stands where no slot does
-abbrev pub blank : Slot Bool
+abbrev pub blank : Slot ℕ
 blank = record { number = 0; value = None }

@@ -1,11 +1,11 @@
 -- One more read is picked.
-use Rattle.std.proofs.Common.{◌≡◌, ℕ, suc, get_or, drop-cons, add-one, ◌^◌, ◌%◌, ◌*◌, ◌/◌, drop, ◌+◌, ◌-◌, ◌<◌, ◌≤◌, ◌==◌, ◌||◌, min, max, Bool, true, false, List, ◌∷◌, length, Option, Some, None, refl, ap, sym, ◌∙◌, subst, ⊎_elim, arith}
+use Rattle.std.proofs.Common.{◌≡◌, ℕ, ◌^◌, ◌%◌, ◌*◌, ◌/◌, drop, ◌+◌, ◌-◌, ◌<◌, ◌≤◌, ◌==◌, ◌||◌, min, max, Bool, true, false, List, ◌∷◌, length, Option, Some, None, refl, ap, sym, ◌∙◌, subst, ⊎_elim, arith}
 use Rattle.std.proofs.lemmas.Bool.{cases_lt}
 use Rattle.std.proofs.lemmas.Bool.Decides.{nat_tests}
 use Rattle.std.specs.BTreeSet.{BTreeSet}
 use Rattle.std.specs.Map.{values_of}
 use Rattle.std.specs.BTreeMap.{insert_entry, values}
-use Rattle.std.specs.List.{AllByRecursion, list_any}
+use Rattle.std.specs.List.{AllByRecursion}
 use Rattle.std.proofs.Math.Nat.{div-add-mod, div-add-mod', mul-le-mul_left}
 use Rattle.std.proofs.lemmas.Nat.{le-div, pow_pos}
 use Rattle.std.proofs.lemmas.List.{drop_all}
@@ -118,32 +118,21 @@ more-trans a b c p q = record {
 pub more-refl : (a : Picks) → PickedMore a a
 more-refl a = record { kept = λ id h. h; low = omega arith; high = omega arith }
 
--- a look at one more number
-pub looked-step : (rules : Rules) (reads : Reads) (before : BTreeSet ℕ) (left from right : ℕ) (old new : Picks) (id : ℕ) (rest : List ℕ) → PickedMore old new
-    → ((q : ℕ) → list_any (λ n. n == q) (id ∷ rest) ≡ false → IsLookedAt rules reads before left from right old q)
-    → IsLookedAt rules reads before left from right new id
-    → (q : ℕ) → list_any (λ n. n == q) rest ≡ false → IsLookedAt rules reads before left from right new q
-looked-step rules reads before left from right old new id rest m before-it it q h = at (id == q) refl
+-- a look at one more read
+pub looked-step : (rules : Rules) (reads : Reads) (before : BTreeSet ℕ) (left from right : ℕ) (old new : Picks) (x : ReadRequest) (rest : List ReadRequest) → PickedMore old new
+    → ((q : ℕ) → is_listed (x ∷ rest) q ≡ false → IsLookedAt rules reads before left from right old q)
+    → IsLookedAt rules reads before left from right new x.id
+    → (q : ℕ) → is_listed rest q ≡ false → IsLookedAt rules reads before left from right new q
+looked-step rules reads before left from right old new x rest m before-it it q h = at (x.id == q) refl
   where
-    at : (b : Bool) → (id == q) ≡ b → IsLookedAt rules reads before left from right new q
+    at : (b : Bool) → (x.id == q) ≡ b → IsLookedAt rules reads before left from right new q
     at true e =
-        let q-is : id ≡ q = grind (arith, nat_tests) in
+        let q-is : x.id ≡ q = grind (arith, nat_tests) in
         subst (λ n. IsLookedAt rules reads before left from right new n) q-is it
-    at false e = looked-more rules reads before left from right old new q m (before-it q (ap (λ b. b || list_any (λ n. n == q) rest) e ∙ h))
+    at false e = looked-more rules reads before left from right old new q m (before-it q (ap (λ b. b || is_listed rest q) e ∙ h))
 
--- a look at one more number of a list
-pub looked-loop : (rules : Rules) (reads : Reads) (before : BTreeSet ℕ) (left from right : ℕ) (old new : Picks) (xs : List ℕ) (i : ℕ) → i < length xs → PickedMore old new
-    → ((q : ℕ) → list_any (λ n. n == q) (drop i xs) ≡ false → IsLookedAt rules reads before left from right old q)
-    → IsLookedAt rules reads before left from right new (get_or xs i 0)
-    → (q : ℕ) → list_any (λ n. n == q) (drop (i + 1) xs) ≡ false → IsLookedAt rules reads before left from right new q
-looked-loop rules reads before left from right old new xs i l m inv it q h =
-    let cons = drop-cons xs i 0 l in
-    let rest : list_any (λ n. n == q) (drop (suc i) xs) ≡ false = rw add-one at h in
-    looked-step rules reads before left from right old new (get_or xs i 0) (drop (suc i) xs) m
-    (λ p (k : list_any (λ n. n == p) (get_or xs i 0 ∷ drop (suc i) xs) ≡ false). inv p (rw cons k)) it q rest
-
--- no number is left to look at
-pub none-left : (xs : List ℕ) (i q : ℕ) → length xs ≤ i → list_any (λ n. n == q) (drop i xs) ≡ false
+-- no read is left to look at
+pub none-left : (xs : List ReadRequest) (i q : ℕ) → length xs ≤ i → is_listed (drop i xs) q ≡ false
 none-left xs i q h = rw (drop_all i xs h) refl
 
 -- what was looked at from the start was looked at from an offset on

@@ -8,7 +8,6 @@ use Rattle.std.specs.List.{AllByRecursion}
 use Rattle.std.specs.List.Sorted.{IsStrictlySortedBy}
 use Rattle.std.specs.Map.{keys_of}
 use Rattle.std.specs.BTreeMap.{insert_entry, is_at}
-use Rattle.std.specs.BTreeSet.{BTreeSet}
 use Rattle.std.specs.Ordering.{nat_cmp}
 use Rattle.std.specs.declared.cmp.Ordering.TheVariants.{Less}
 use Rattle.vx_sched.specs.Merging.{is_listed}
@@ -19,12 +18,14 @@ use Rattle.vx_sched.specs.Counting.{same_state, count_in, is_of, count_of}
 use Rattle.vx_sched.specs.declared.counts.Counts.{Counts}
 use Rattle.vx_sched.specs.declared.counts.Kind.{Kind}
 use Rattle.vx_sched.specs.declared.counts.Kind.TheVariants.{IsRegistered, IsPolled, IsFlying, IsResolved, Leads}
-use Rattle.vx_sched.specs.Places.{IsKept, AllFit, AreGrouped, size_in}
+use Rattle.vx_sched.specs.Kept.{IsKept}
+use Rattle.vx_sched.specs.Places.{AllFit, AreGrouped, size_in}
+use Rattle.vx_sched.specs.declared.places.Places.{Places}
 use Rattle.vx_sched.proofs.EntriesLemmas.{lookup-put, changed-at, change_entry}
 use Rattle.vx_sched.proofs.GroupLemmas.{AreThose, AreKeyed, keyed-all, entry-skip, flight, group-listed, group-same}
 use Rattle.vx_sched.proofs.ChangeLemmas.{same-reads, KeepsNumbers, step, change-at, change-rise, added-at, added-rise}
 use Rattle.vx_sched.specs.declared.request.ReadRequest.{ReadRequest}
-use Rattle.vx_sched.specs.declared.read.Read.{Read}
+use Rattle.vx_sched.specs.Stored.{Read}
 use Rattle.vx_sched.specs.declared.read.ReadState.{ReadState}
 use Rattle.vx_sched.specs.declared.read.ReadState.TheVariants as state
 use Rattle.vx_sched.specs.declared.read.Stage.{Stage}
@@ -120,8 +121,12 @@ pub waits-seen : (es : Entries) (rs : List ReadRequest) → AreKeyed es → AllB
 waits-seen es [] k h = tt
 waits-seen es (r ∷ rs) k h = (sym (waiting-seen es r.id k) ∙ h.0, waits-seen es rs k h.1)
 
+pub those-wait : (es : Entries) (rs : List ReadRequest) → AreKeyed es → AllByRecursion (λ r. waiting_in es r.id ≡ Some r) rs → AllByRecursion (λ r. waiting_at (seen es) r.id ≡ Some r) rs
+those-wait es [] k h = tt
+those-wait es (r ∷ rs) k h = (waiting-seen es r.id k ∙ h.0, those-wait es rs k h.1)
+
 -- a waiting read has its number and fits
-pub waiting-fits : (es : Entries) (places : BTreeSet (ℕ × ℕ)) (longest q : ℕ) → IsKept es places longest → IfSome (waiting_in es q) (λ r. (r.id ≡ q) × (end_of r < 2 ^ 64))
+pub waiting-fits : (es : Entries) (places : Places) (longest q : ℕ) → IsKept es places longest → IfSome (waiting_in es q) (λ r. (r.id ≡ q) × (end_of r < 2 ^ 64))
 waiting-fits es places longest q k = at (entry_at es q) refl
   where
     at : (x : Option Read) → entry_at es q ≡ x → IfSome (if_waits x) (λ r. (r.id ≡ q) × (end_of r < 2 ^ 64))
@@ -133,7 +138,7 @@ waiting-fits es places longest q k = at (entry_at es q) refl
         stage false = tt
 
 -- each waiting read fits
-pub all-fit : (es : Entries) (places : BTreeSet (ℕ × ℕ)) (longest : ℕ) → IsKept es places longest → AreKeyed es → AllFit (seen es)
+pub all-fit : (es : Entries) (places : Places) (longest : ℕ) → IsKept es places longest → AreKeyed es → AllFit (seen es)
 all-fit es places longest k keyed id r h =
     fits (waiting_in es id) (sym (waiting-seen es id keyed) ∙ h) (waiting-fits es places longest id k)
   where
@@ -150,7 +155,7 @@ pub record Stands (es : Entries) : Type 0 where
   pub numbers : (q : ℕ) (x : Read) → entry_at es q ≡ Some x → x.request.id ≡ q
 
 -- entries of a table stand for reads
-pub stands-kept : (es : Entries) (places : BTreeSet (ℕ × ℕ)) (longest : ℕ) → IsKept es places longest → Stands es
+pub stands-kept : (es : Entries) (places : Places) (longest : ℕ) → IsKept es places longest → Stands es
 stands-kept es places longest k = record { sorted = k.sorted; keyed = keyed-all es k.sorted k.keyed; numbers = k.keyed }
 
 pub known-along : (es es' : Entries) (x : Read) → group x.request.id es' ≡ group x.request.id es → known es' x ≡ known es x

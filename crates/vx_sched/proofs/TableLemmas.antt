@@ -1,9 +1,11 @@
 -- A table of reads and places, after a change.
-use Rattle.std.proofs.Common.{◌≡◌, ℕ, ◌≤◌, ◌||◌, List, [], ◌∷◌, map, max, ◌-◌, ◌<◌, ◌^◌, ◌==◌, ◌&&◌, not, Bool, true, false, cond, Option, Some, None, option_map, IfSome, IfNone, refl, ap, sym, ◌∙◌, arith, subst, unwrap_or, rules}
+use Rattle.std.proofs.Common.{◌≡◌, ℕ, ◌+◌, length, drop, get_or, drop-cons, add-one, ◌≤◌, ◌%◌, ◌||◌, List, [], ◌∷◌, ◌++◌, map, max, ◌-◌, ◌<◌, ◌^◌, ◌==◌, ◌&&◌, not, Bool, true, false, cond, Option, Some, None, option_map, option_to_list, if◌then◌else◌, is_some, IfSome, IfNone, refl, ap, sym, ◌∙◌, arith, subst, unwrap_or, rules}
 use Rattle.std.proofs.lemmas.Bool.Decides.{nat_tests}
-use Rattle.std.specs.List.{list_any, filter}
+use Rattle.std.proofs.lemmas.Nat.Bits.{bit_at-zero}
+use Rattle.std.specs.List.{list_any, filter, AllByRecursion}
+use Rattle.vx_sched.specs.Merging.{is_listed}
 use Rattle.std.specs.BTreeMap.{is_at}
-use Rattle.std.specs.BTreeSet.{BTreeSet, contains, keys_between}
+use Rattle.std.specs.BTreeSet.{keys_between}
 use Rattle.std.specs.BTreeMap.Range.{range_contains}
 use Rattle.std.specs.declared.ops.Bound.TheVariants.{Included}
 use Rattle.std.specs.Ordering.{nat_cmp}
@@ -11,15 +13,17 @@ use Rattle.vx_sched.specs.Span.{end_of}
 use Rattle.std.specs.List.Sorted.{IsStrictlySortedBy}
 use Rattle.std.specs.Map.{keys_of}
 use Rattle.std.proofs.lemmas.Map.Keys.{sorted_from_strictly_increasing}
-use Rattle.vx_sched.specs.Entries.{Entries, entry_at, if_waits, waits_in, polled_in, after}
+use Rattle.vx_sched.specs.Entries.{Entries, entry_at, waiting_among, if_waits, waits_in, polled_in, after}
 use Rattle.vx_sched.proofs.EntriesLemmas.{waiting_in, if_polls, polled_entry}
 use Rattle.vx_sched.specs.Reads.{Known, Reads, read_at, waiting_at, polled_at, if_waiting, if_polled, is_waiting, is_polled}
-use Rattle.vx_sched.specs.Polls.{Flags, flag_at, is_raised, AreMarked}
+use Rattle.vx_sched.specs.Polls.{Words, has_room, is_raised, polls_in, stays_polled, AreMarked}
 use Rattle.vx_sched.specs.declared.read.ReadState.{ReadState}
 use Rattle.vx_sched.specs.declared.read.ReadState.TheVariants as state
-use Rattle.vx_sched.specs.Places.{place_cmp, waits_at, stays_waiting, IsKept, AreGrouped, IsTable}
+use Rattle.vx_sched.specs.Kept.{Has, IsKept, IsTable}
+use Rattle.vx_sched.specs.Places.{place_cmp, waits_at, stays_waiting}
+use Rattle.vx_sched.specs.declared.places.Places.{Places}
 use Rattle.vx_sched.specs.declared.request.ReadRequest.{ReadRequest}
-use Rattle.vx_sched.specs.declared.read.Read.{Read}
+use Rattle.vx_sched.specs.Stored.{Read}
 use Rattle.vx_sched.specs.declared.read.Stage.{Stage}
 use Rattle.vx_sched.specs.declared.read.Stage.TheVariants.{Registered, Polled, InFlight, Resolved}
 use Rattle.vx_sched.specs.declared.read.Change.{Change}
@@ -85,38 +89,36 @@ put-keeps : (P : ℕ → ReadRequest → Type 0) (q : ℕ) (r : ReadRequest) (st
 put-keeps P q r stage old y true here there h = subst (P q) (sym (put-request r stage y h)) (here refl)
 put-keeps P q r stage old y false here there h = there y h
 
-module _ (reads reads' : Entries) (places places' : BTreeSet (ℕ × ℕ)) (longest : ℕ) (x : Read) (stage : Option Stage) (t : IsKept reads places longest) (sorted : IsStrictlySortedBy nat_cmp (keys_of reads'))
+module _ (reads reads' : Entries) (places places' : Places) (longest : ℕ) (x : Read) (stage : Option Stage) (t : IsKept reads places longest) (sorted : IsStrictlySortedBy nat_cmp (keys_of reads'))
     (found : entry_at reads x.request.id ≡ Some x) (waits : waits_in x.stage ≡ false → stays_waiting stage ≡ false)
     (lookups : (q : ℕ) → entry_at reads' q ≡ cond (is_at (nat_cmp x.request.id) q) (option_map (λ s. record { request = x.request; stage = s }) stage) (entry_at reads q))
-    (placed : (k : ℕ × ℕ) → contains place_cmp places' k ≡ cond ((waits_in x.stage && not (stays_waiting stage)) && is_at (place_cmp (x.request.offset, x.request.id)) k) false (contains place_cmp places k)) where
+    (placed : (k : ℕ × ℕ) (b : Bool) → Has places k b → Has places' k (cond ((waits_in x.stage && not (stays_waiting stage)) && is_at (place_cmp (x.request.offset, x.request.id)) k) false b)) where
   -- the look-up of a number, by a test of numbers
   found-at : (q : ℕ) → entry_at reads' q ≡ cond (x.request.id == q) (option_map (λ s. record { request = x.request; stage = s }) stage) (entry_at reads q)
   found-at q = lookups q ∙ ap (λ b. cond b (option_map (λ s. record { request = x.request; stage = s }) stage) (entry_at reads q)) (at-eq x.request.id q)
 
-  tied-at : (o q : ℕ) (same : Bool) → (x.request.id == q) ≡ same → contains place_cmp places' (o, q) ≡ waits_at o (entry_at reads' q)
+  tied-at : (o q : ℕ) (same : Bool) → (x.request.id == q) ≡ same
+      → cond ((waits_in x.stage && not (stays_waiting stage)) && is_at (place_cmp (x.request.offset, x.request.id)) (o, q)) false (waits_at o (entry_at reads q)) ≡ waits_at o (entry_at reads' q)
   tied-at o q true e =
       let q-is : x.request.id ≡ q = grind (arith, nat_tests) in
       let here : entry_at reads q ≡ Some x = subst (λ n. entry_at reads n ≡ Some x) q-is found in
-      placed (o, q)
-      ∙ ap (λ b. cond ((waits_in x.stage && not (stays_waiting stage)) && b) false (contains place_cmp places (o, q))) (place-eq x.request.offset x.request.id o q)
-      ∙ ap (λ b. cond ((waits_in x.stage && not (stays_waiting stage)) && ((x.request.offset == o) && b)) false (contains place_cmp places (o, q))) e
-      ∙ ap (λ b. cond ((waits_in x.stage && not (stays_waiting stage)) && ((x.request.offset == o) && true)) false b) (t.tied o q ∙ ap (waits_at o) here)
+      ap (λ b. cond ((waits_in x.stage && not (stays_waiting stage)) && b) false (waits_at o (entry_at reads q))) (place-eq x.request.offset x.request.id o q)
+      ∙ ap (λ b. cond ((waits_in x.stage && not (stays_waiting stage)) && ((x.request.offset == o) && b)) false (waits_at o (entry_at reads q))) e
+      ∙ ap (λ (y : Option Read). cond ((waits_in x.stage && not (stays_waiting stage)) && ((x.request.offset == o) && true)) false (waits_at o y)) here
       ∙ tied-same (waits_in x.stage) (stays_waiting stage) (x.request.offset == o) waits
       ∙ sym (waits_at-put o x.request stage)
       ∙ sym (ap (waits_at o) (found-at q ∙ ap (λ b. cond b (option_map (λ s. record { request = x.request; stage = s }) stage) (entry_at reads q)) e))
   tied-at o q false e =
-      placed (o, q)
-      ∙ ap (λ b. cond ((waits_in x.stage && not (stays_waiting stage)) && b) false (contains place_cmp places (o, q))) (place-eq x.request.offset x.request.id o q)
-      ∙ ap (λ b. cond ((waits_in x.stage && not (stays_waiting stage)) && ((x.request.offset == o) && b)) false (contains place_cmp places (o, q))) e
-      ∙ tied-other (waits_in x.stage && not (stays_waiting stage)) (x.request.offset == o) (contains place_cmp places (o, q))
-      ∙ t.tied o q
+      ap (λ b. cond ((waits_in x.stage && not (stays_waiting stage)) && b) false (waits_at o (entry_at reads q))) (place-eq x.request.offset x.request.id o q)
+      ∙ ap (λ b. cond ((waits_in x.stage && not (stays_waiting stage)) && ((x.request.offset == o) && b)) false (waits_at o (entry_at reads q))) e
+      ∙ tied-other (waits_in x.stage && not (stays_waiting stage)) (x.request.offset == o) (waits_at o (entry_at reads q))
       ∙ sym (ap (waits_at o) (found-at q ∙ ap (λ b. cond b (option_map (λ s. record { request = x.request; stage = s }) stage) (entry_at reads q)) e))
 
   -- a table stays one where a read in it changes its stage or goes
   pub changed-table : IsKept reads' places' longest
   changed-table = record {
     sorted = sorted;
-    tied = λ o q. tied-at o q (x.request.id == q) refl;
+    tied = λ o q. subst (Has places' (o, q)) (tied-at o q (x.request.id == q) refl) (placed (o, q) (waits_at o (entry_at reads q)) (t.tied o q));
     keyed = λ q y h. put-keeps (λ n r. r.id ≡ n) q x.request stage (entry_at reads q) y (x.request.id == q) (λ e. grind (arith, nat_tests)) (t.keyed q) (sym (found-at q) ∙ h);
     small = λ q y h. put-keeps (λ n r. n < 2 ^ 64) q x.request stage (entry_at reads q) y (x.request.id == q) (λ e. let s = t.small x.request.id x found in grind (arith, nat_tests)) (t.small q) (sym (found-at q) ∙ h);
     long = λ q y h. put-keeps (λ n r. r.length ≤ longest) q x.request stage (entry_at reads q) y (x.request.id == q) (λ _. t.long x.request.id x found) (t.long q) (sym (found-at q) ∙ h);
@@ -124,25 +126,25 @@ module _ (reads reads' : Entries) (places places' : BTreeSet (ℕ × ℕ)) (long
   }
 
 -- a place that was put in and taken out again
-pub placed-back : (s : BTreeSet (ℕ × ℕ)) (p k : ℕ × ℕ) (mid new : Bool) → contains place_cmp s p ≡ false
-    → mid ≡ cond (is_at (place_cmp p) k) true (contains place_cmp s k) → new ≡ cond (is_at (place_cmp p) k) false mid → new ≡ contains place_cmp s k
-placed-back s p k mid new absent put taken = back (is_at (place_cmp p) k) refl
+pub placed-back : (places places' : Places) (p k : ℕ × ℕ) (b : Bool) → places'.is_kept ≡ places.is_kept → Has places p false → Has places k b
+    → ((x : Bool) → Has places k x → Has places' k (cond (is_at (place_cmp p) k) false (cond (is_at (place_cmp p) k) true x))) → Has places' k b
+placed-back places places' p k b same absent old taken = at (is_at (place_cmp p) k) refl
   where
-    back : (b : Bool) → is_at (place_cmp p) k ≡ b → new ≡ contains place_cmp s k
-    back true e =
+    at : (t : Bool) → is_at (place_cmp p) k ≡ t → Has places' k b
+    at true e =
         let both : ((p.0 == k.0) && (p.1 == k.1)) ≡ true = sym (place-eq p.0 p.1 k.0 k.1) ∙ e in
         let first : p.0 ≡ k.0 = grind (arith, nat_tests) in
         let second : p.1 ≡ k.1 = grind (arith, nat_tests) in
-        let gone : contains place_cmp s (k.0, k.1) ≡ false = subst (λ n. contains place_cmp s (k.0, n) ≡ false) second (subst (λ n. contains place_cmp s (n, p.1) ≡ false) first absent) in
-        taken ∙ ap (λ c. cond c false mid) e ∙ sym gone
-    back false e = taken ∙ ap (λ c. cond c false mid) e ∙ put ∙ ap (λ c. cond c true (contains place_cmp s k)) e
+        let gone : Has places (k.0, k.1) false = subst (λ n. Has places (k.0, n) false) second (subst (λ n. Has places (n, p.1) false) first absent) in
+        λ kept. subst (Has places' k) (ap (λ t. cond t false (cond t true false)) e) (taken false gone) kept ∙ sym (gone (sym same ∙ kept)) ∙ old (sym same ∙ kept)
+    at false e = subst (Has places' k) (ap (λ t. cond t false (cond t true b)) e) (taken b old)
 
 -- a table whose entries and places are the same
-pub same-table : (reads reads' : Entries) (places places' : BTreeSet (ℕ × ℕ)) (longest : ℕ) → IsKept reads places longest → reads' ≡ reads
-    → ((k : ℕ × ℕ) → contains place_cmp places' k ≡ contains place_cmp places k) → IsKept reads' places' longest
+pub same-table : (reads reads' : Entries) (places places' : Places) (longest : ℕ) → IsKept reads places longest → reads' ≡ reads
+    → ((k : ℕ × ℕ) (b : Bool) → Has places k b → Has places' k b) → IsKept reads' places' longest
 same-table reads reads' places places' longest t e same = rw e (record {
   sorted = t.sorted;
-  tied = λ o q. same (o, q) ∙ t.tied o q;
+  tied = λ o q. same (o, q) (waits_at o (entry_at reads q)) (t.tied o q);
   keyed = t.keyed;
   small = t.small;
   long = t.long;
@@ -150,13 +152,13 @@ same-table reads reads' places places' longest t e same = rw e (record {
 })
 
 -- nothing waits at the place of a new read
-pub fresh-place : (reads : Entries) (places : BTreeSet (ℕ × ℕ)) (longest : ℕ) (r : ReadRequest) → IsKept reads places longest → entry_at reads r.id ≡ None → contains place_cmp places (r.offset, r.id) ≡ false
-fresh-place reads places longest r t fresh = t.tied r.offset r.id ∙ ap (waits_at r.offset) fresh
+pub fresh-place : (reads : Entries) (places : Places) (longest : ℕ) (r : ReadRequest) → IsKept reads places longest → entry_at reads r.id ≡ None → Has places (r.offset, r.id) false
+fresh-place reads places longest r t fresh = subst (Has places (r.offset, r.id)) (ap (waits_at r.offset) fresh) (t.tied r.offset r.id)
 
-module _ (reads reads' : Entries) (places places' : BTreeSet (ℕ × ℕ)) (longest : ℕ) (r : ReadRequest) (t : IsKept reads places longest) (sorted : IsStrictlySortedBy nat_cmp (keys_of reads'))
+module _ (reads reads' : Entries) (places places' : Places) (longest : ℕ) (r : ReadRequest) (t : IsKept reads places longest) (sorted : IsStrictlySortedBy nat_cmp (keys_of reads'))
     (fresh : entry_at reads r.id ≡ None) (number : r.id < 2 ^ 64) (ends : end_of r < 2 ^ 64)
     (lookups : (q : ℕ) → entry_at reads' q ≡ cond (is_at (nat_cmp r.id) q) (Some (record { request = r; stage = Registered })) (entry_at reads q))
-    (placed : (k : ℕ × ℕ) → contains place_cmp places' k ≡ cond (is_at (place_cmp (r.offset, r.id)) k) true (contains place_cmp places k)) where
+    (placed : (k : ℕ × ℕ) (b : Bool) → Has places k b → Has places' k (cond (is_at (place_cmp (r.offset, r.id)) k) true b)) where
   added-at : (q : ℕ) → entry_at reads' q ≡ cond (r.id == q) (Some (record { request = r; stage = Registered })) (entry_at reads q)
   added-at q = lookups q ∙ ap (λ b. cond b (Some (record { request = r; stage = Registered })) (entry_at reads q)) (at-eq r.id q)
 
@@ -168,21 +170,18 @@ module _ (reads reads' : Entries) (places places' : BTreeSet (ℕ × ℕ)) (long
   other-place true x = refl
   other-place false x = refl
 
-  added-tied : (o q : ℕ) (same : Bool) → (r.id == q) ≡ same → contains place_cmp places' (o, q) ≡ waits_at o (entry_at reads' q)
+  added-tied : (o q : ℕ) (same : Bool) → (r.id == q) ≡ same → cond (is_at (place_cmp (r.offset, r.id)) (o, q)) true (waits_at o (entry_at reads q)) ≡ waits_at o (entry_at reads' q)
   added-tied o q true e =
       let q-is : r.id ≡ q = grind (arith, nat_tests) in
       let none : entry_at reads q ≡ None = subst (λ n. entry_at reads n ≡ None) q-is fresh in
-      placed (o, q)
-      ∙ ap (λ b. cond b true (contains place_cmp places (o, q))) (place-eq r.offset r.id o q)
-      ∙ ap (λ b. cond ((r.offset == o) && b) true (contains place_cmp places (o, q))) e
-      ∙ added-place (r.offset == o) (contains place_cmp places (o, q)) (t.tied o q ∙ ap (waits_at o) none)
+      ap (λ b. cond b true (waits_at o (entry_at reads q))) (place-eq r.offset r.id o q)
+      ∙ ap (λ b. cond ((r.offset == o) && b) true (waits_at o (entry_at reads q))) e
+      ∙ added-place (r.offset == o) (waits_at o (entry_at reads q)) (ap (waits_at o) none)
       ∙ sym (ap (waits_at o) (added-at q ∙ ap (λ b. cond b (Some (record { request = r; stage = Registered })) (entry_at reads q)) e))
   added-tied o q false e =
-      placed (o, q)
-      ∙ ap (λ b. cond b true (contains place_cmp places (o, q))) (place-eq r.offset r.id o q)
-      ∙ ap (λ b. cond ((r.offset == o) && b) true (contains place_cmp places (o, q))) e
-      ∙ other-place (r.offset == o) (contains place_cmp places (o, q))
-      ∙ t.tied o q
+      ap (λ b. cond b true (waits_at o (entry_at reads q))) (place-eq r.offset r.id o q)
+      ∙ ap (λ b. cond ((r.offset == o) && b) true (waits_at o (entry_at reads q))) e
+      ∙ other-place (r.offset == o) (waits_at o (entry_at reads q))
       ∙ sym (ap (waits_at o) (added-at q ∙ ap (λ b. cond b (Some (record { request = r; stage = Registered })) (entry_at reads q)) e))
 
   le-max : {m : ℕ} → m ≤ longest → m ≤ max longest r.length
@@ -192,7 +191,7 @@ module _ (reads reads' : Entries) (places places' : BTreeSet (ℕ × ℕ)) (long
   pub added-table : IsKept reads' places' (max longest r.length)
   added-table = record {
     sorted = sorted;
-    tied = λ o q. added-tied o q (r.id == q) refl;
+    tied = λ o q. subst (Has places' (o, q)) (added-tied o q (r.id == q) refl) (placed (o, q) (waits_at o (entry_at reads q)) (t.tied o q));
     keyed = λ q y h. put-keeps (λ n s. s.id ≡ n) q r (Some Registered) (entry_at reads q) y (r.id == q) (λ e. grind (arith, nat_tests)) (t.keyed q) (sym (added-at q) ∙ h);
     small = λ q y h. put-keeps (λ n s. n < 2 ^ 64) q r (Some Registered) (entry_at reads q) y (r.id == q) (λ e. grind (arith, nat_tests)) (t.small q) (sym (added-at q) ∙ h);
     long = λ q y h. put-keeps (λ n s. s.length ≤ max longest r.length) q r (Some Registered) (entry_at reads q) y (r.id == q) (λ _. omega arith) (λ z k. le-max (t.long q z k)) (sym (added-at q) ∙ h);
@@ -229,8 +228,8 @@ near-listed p o q inside (k ∷ ks) h = at (is_at (place_cmp (o, q)) k) refl h (
     at false e h step = skip (p k) (step h)
 
 -- a waiting read has its place
-pub waiting-placed : (reads : Entries) (places : BTreeSet (ℕ × ℕ)) (longest : ℕ) → IsKept reads places longest → (id : ℕ) (r : ReadRequest) → waiting_in reads id ≡ Some r → contains place_cmp places (r.offset, id) ≡ true
-waiting-placed reads places longest t id r h = t.tied r.offset id ∙ at (entry_at reads id) h
+pub waiting-placed : (reads : Entries) (places : Places) (longest : ℕ) → IsKept reads places longest → (id : ℕ) (r : ReadRequest) → waiting_in reads id ≡ Some r → Has places (r.offset, id) true
+waiting-placed reads places longest t id r h = subst (Has places (r.offset, id)) (at (entry_at reads id) h) (t.tied r.offset id)
   where
     at : (x : Option Read) → if_waits x ≡ Some r → waits_at r.offset x ≡ true
     at None h = cc
@@ -243,7 +242,20 @@ waiting-placed reads places longest t id r h = t.tied r.offset id ∙ at (entry_
         stage false h = cc
 
 -- a waiting read has a number in range
-waiting-small : (reads : Entries) (places : BTreeSet (ℕ × ℕ)) (longest : ℕ) → IsKept reads places longest → (id : ℕ) (r : ReadRequest) → waiting_in reads id ≡ Some r → id < 2 ^ 64
+pub waiting-id : (reads : Entries) (places : Places) (longest : ℕ) → IsKept reads places longest → (id : ℕ) (r : ReadRequest) → waiting_in reads id ≡ Some r → r.id ≡ id
+waiting-id reads places longest t id r h = at (entry_at reads id) refl h
+  where
+    one : (x : Read) → entry_at reads id ≡ Some x → (b : Bool) → (if_waits (Some x) ≡ (if b then Some x.request else None)) → (if b then Some x.request else None) ≡ Some r → r.id ≡ id
+    one x e true f h =
+        let same : x.request ≡ r = cc in
+        subst (λ (y : ReadRequest). y.id ≡ id) same (t.keyed id x e)
+    one x e false f h = cc
+
+    at : (o : Option Read) → entry_at reads id ≡ o → if_waits o ≡ Some r → r.id ≡ id
+    at None e h = cc
+    at (Some x) e h = one x e (waits_in x.stage) refl h
+
+waiting-small : (reads : Entries) (places : Places) (longest : ℕ) → IsKept reads places longest → (id : ℕ) (r : ReadRequest) → waiting_in reads id ≡ Some r → id < 2 ^ 64
 waiting-small reads places longest t id r h = at (entry_at reads id) refl h
   where
     at : (x : Option Read) → entry_at reads id ≡ x → if_waits x ≡ Some r → id < 2 ^ 64
@@ -251,7 +263,7 @@ waiting-small reads places longest t id r h = at (entry_at reads id) refl h
     at (Some x) e h = t.small id x e
 
 -- a waiting read is no longer than the longest
-waiting-long : (reads : Entries) (places : BTreeSet (ℕ × ℕ)) (longest : ℕ) → IsKept reads places longest → (id : ℕ) (r : ReadRequest) → waiting_in reads id ≡ Some r → r.length ≤ longest
+waiting-long : (reads : Entries) (places : Places) (longest : ℕ) → IsKept reads places longest → (id : ℕ) (r : ReadRequest) → waiting_in reads id ≡ Some r → r.length ≤ longest
 waiting-long reads places longest t id r h = at (entry_at reads id) refl h
   where
     at : (x : Option Read) → entry_at reads id ≡ x → if_waits x ≡ Some r → r.length ≤ longest
@@ -265,69 +277,155 @@ waiting-long reads places longest t id r h = at (entry_at reads id) refl h
         stage false k = cc
 
 -- the numbers of the waiting reads near a range
-pub near-complete : (reads : Entries) (places : BTreeSet (ℕ × ℕ)) (longest left from right first : ℕ) (ids : List ℕ) → IsKept reads places longest
+pub near-complete : (reads : Entries) (places : Places) (longest left from right first : ℕ) (ids : List ℕ) → IsKept reads places longest → places.is_kept ≡ true
     → first ≡ max from (left - longest)
-    → ids ≡ map (λ (k : ℕ × ℕ). k.1) (keys_between place_cmp (Included (first, 0)) (Included (right, 18446744073709551615)) places)
+    → ids ≡ map (λ (k : ℕ × ℕ). k.1) (keys_between place_cmp (Included (first, 0)) (Included (right, 18446744073709551615)) places.set)
     → (id : ℕ) (r : ReadRequest) → waiting_in reads id ≡ Some r → left ≤ end_of r → from ≤ r.offset → r.offset ≤ right → list_any (λ n. n == id) ids ≡ true
-near-complete reads places longest left from right first ids t f e id r h l o u =
+near-complete reads places longest left from right first ids t kept f e id r h l o u =
     let small = waiting-small reads places longest t id r h in
     let long = waiting-long reads places longest t id r h in
     let begins : first ≤ r.offset = omega arith in
     let inside : range_contains place_cmp (Included (first, 0)) (Included (right, 18446744073709551615)) (r.offset, id) ≡ true = grind (arith, nat_tests) in
-    rw e (near-listed (range_contains place_cmp (Included (first, 0)) (Included (right, 18446744073709551615))) r.offset id inside places.keys (waiting-placed reads places longest t id r h))
+    rw e (near-listed (range_contains place_cmp (Included (first, 0)) (Included (right, 18446744073709551615))) r.offset id inside places.set.keys (waiting-placed reads places longest t id r h kept))
+
+-- without places, all numbers
+pub all-complete : (reads : Entries) (ids : List ℕ) → ids ≡ keys_of reads → (id : ℕ) (r : ReadRequest) → waiting_in reads id ≡ Some r → list_any (λ n. n == id) ids ≡ true
+all-complete reads ids e id r h = rw e (at reads h)
+  where
+    or-right : (a b : Bool) → b ≡ true → (a || b) ≡ true
+    or-right true b h = refl
+    or-right false b h = h
+
+    here : (n : ℕ) → is_at (nat_cmp id) n ≡ true → (n == id) ≡ true
+    here n e = grind (arith, nat_tests)
+
+    step : (n : ℕ) (x : Read) (es : Entries) → (if_waits (entry_at es id) ≡ Some r → list_any (λ m. m == id) (keys_of es) ≡ true) → (b : Bool) → is_at (nat_cmp id) n ≡ b
+        → if_waits (cond b (Some x) (entry_at es id)) ≡ Some r → ((n == id) || list_any (λ m. m == id) (keys_of es)) ≡ true
+    step n x es more true f h = ap (λ b. b || list_any (λ m. m == id) (keys_of es)) (here n f)
+    step n x es more false f h = or-right (n == id) (list_any (λ m. m == id) (keys_of es)) (more h)
+
+    at : (es : Entries) → waiting_in es id ≡ Some r → list_any (λ n. n == id) (keys_of es) ≡ true
+    at [] h = cc
+    at (entry ∷ es) h = step entry.0 entry.1 es (at es) (is_at (nat_cmp id) entry.0) refl h
+
+-- either way each waiting read near a range is named
+pub near-named : (reads : Entries) (places : Places) (longest left from right first : ℕ) (ids : List ℕ) → IsKept reads places longest → first ≡ max from (left - longest)
+    → (places.is_kept ≡ true → ids ≡ map (λ (k : ℕ × ℕ). k.1) (keys_between place_cmp (Included (first, 0)) (Included (right, 18446744073709551615)) places.set))
+    → (places.is_kept ≡ false → ids ≡ keys_of reads)
+    → (id : ℕ) (r : ReadRequest) → waiting_in reads id ≡ Some r → left ≤ end_of r → from ≤ r.offset → r.offset ≤ right → list_any (λ n. n == id) ids ≡ true
+near-named reads places longest left from right first ids t f near all id r h l o u = at places.is_kept refl
+  where
+    at : (b : Bool) → places.is_kept ≡ b → list_any (λ n. n == id) ids ≡ true
+    at true e = near-complete reads places longest left from right first ids t e f (near e) id r h l o u
+    at false e = all-complete reads ids (all e) id r h
 
 -- no waiting read lies where there is no room
-pub near-none : (reads : Entries) (places : BTreeSet (ℕ × ℕ)) (longest left from right first : ℕ) (ids : List ℕ) → IsKept reads places longest → first ≡ max from (left - longest) → right < first
-    → (id : ℕ) (r : ReadRequest) → waiting_in reads id ≡ Some r → left ≤ end_of r → from ≤ r.offset → r.offset ≤ right → list_any (λ n. n == id) ids ≡ true
-near-none reads places longest left from right first ids t f past id r h l o u =
+pub near-none : (reads : Entries) (places : Places) (longest left from right first : ℕ) (rs : List ReadRequest) → IsKept reads places longest → first ≡ max from (left - longest) → right < first
+    → (id : ℕ) (r : ReadRequest) → waiting_in reads id ≡ Some r → left ≤ end_of r → from ≤ r.offset → r.offset ≤ right → is_listed rs id ≡ true
+near-none reads places longest left from right first rs t f past id r h l o u =
     let long = waiting-long reads places longest t id r h in
     absurd (omega arith)
 
--- the flags stay those of the reads where a read changes its stage or goes
-pub marked-changed : (reads reads' : Entries) (flags flags' : Flags) (id : ℕ) (r : ReadRequest) (stage : Option Stage) → AreMarked reads flags
+-- the reads that wait among those of the numbers from one on
+among-step : (reads : Entries) (ids : List ℕ) (i : ℕ) → i < length ids → waiting_among reads (drop i ids) ≡ option_to_list (waiting_in reads (get_or ids i 0)) ++ waiting_among reads (drop (i + 1) ids)
+among-step reads ids i l = ap (waiting_among reads) (drop-cons ids i 0 l) ∙ ap (λ n. option_to_list (waiting_in reads (get_or ids i 0)) ++ waiting_among reads (drop n ids)) (sym (add-one i))
+
+pub among-none : (reads : Entries) (ids : List ℕ) (i : ℕ) → i < length ids → waiting_in reads (get_or ids i 0) ≡ None → waiting_among reads (drop i ids) ≡ waiting_among reads (drop (i + 1) ids)
+among-none reads ids i l h = among-step reads ids i l ∙ ap (λ o. option_to_list o ++ waiting_among reads (drop (i + 1) ids)) h
+
+pub among-some : (reads : Entries) (ids : List ℕ) (i : ℕ) (r : ReadRequest) → i < length ids → waiting_in reads (get_or ids i 0) ≡ Some r → waiting_among reads (drop i ids) ≡ r ∷ waiting_among reads (drop (i + 1) ids)
+among-some reads ids i r l h = among-step reads ids i l ∙ ap (λ o. option_to_list o ++ waiting_among reads (drop (i + 1) ids)) h
+
+-- the reads that wait among those of numbers: each that was named, and no other
+pub among-listed : (reads : Entries) (ids : List ℕ) (id : ℕ) (r : ReadRequest) → waiting_in reads id ≡ Some r → r.id ≡ id → list_any (λ n. n == id) ids ≡ true → is_listed (waiting_among reads ids) id ≡ true
+among-listed reads [] id r w k h = cc
+among-listed reads (n ∷ ids) id r w k h = at (among-listed reads ids id r w k) (n == id) refl (waiting_in reads n) refl
+  where
+    self : (r.id == id) ≡ true
+    self = grind (arith, nat_tests)
+
+    or-right : (a b : Bool) → b ≡ true → (a || b) ≡ true
+    or-right true b h = refl
+    or-right false b h = h
+
+    at : (list_any (λ n. n == id) ids ≡ true → is_listed (waiting_among reads ids) id ≡ true) → (b : Bool) → (n == id) ≡ b → (o : Option ReadRequest) → waiting_in reads n ≡ o
+        → is_listed (option_to_list o ++ waiting_among reads ids) id ≡ true
+    at more true e o f =
+        let same : n ≡ id = grind (arith, nat_tests) in
+        let here : o ≡ Some r = sym f ∙ ap (waiting_in reads) same ∙ w in
+        rw here (ap (λ b. b || is_listed (waiting_among reads ids) id) self)
+    at more false e None f = more (sym (ap (λ b. b || list_any (λ n. n == id) ids) e) ∙ h)
+    at more false e (Some x) f = or-right (x.id == id) (is_listed (waiting_among reads ids) id) (more (sym (ap (λ b. b || list_any (λ n. n == id) ids) e) ∙ h))
+
+pub among-wait : (reads : Entries) (places : Places) (longest : ℕ) (ids : List ℕ) → IsKept reads places longest → AllByRecursion (λ r. waiting_in reads r.id ≡ Some r) (waiting_among reads ids)
+among-wait reads places longest [] k = tt
+among-wait reads places longest (n ∷ ids) k = at (among-wait reads places longest ids k) (waiting_in reads n) refl
+  where
+    at : AllByRecursion (λ r. waiting_in reads r.id ≡ Some r) (waiting_among reads ids) → (o : Option ReadRequest) → waiting_in reads n ≡ o
+        → AllByRecursion (λ r. waiting_in reads r.id ≡ Some r) (option_to_list o ++ waiting_among reads ids)
+    at rest None f = rest
+    at rest (Some x) f =
+        let id = waiting-id reads places longest k n x f in
+        (subst (λ m. waiting_in reads m ≡ Some x) (sym id) f, rest)
+
+-- the bits stay those of the reads where a read changes its stage or goes
+pub marked-changed : (reads reads' : Entries) (words words' : Words) (id : ℕ) (r : ReadRequest) (stage : Option Stage) → AreMarked reads words → is_some (entry_at reads id) ≡ true
     → ((q : ℕ) → entry_at reads' q ≡ cond (is_at (nat_cmp id) q) (option_map (λ s. record { request = r; stage = s }) stage) (entry_at reads q))
-    → ((n : ℕ) → flag_at flags' n ≡ cond (is_at (nat_cmp id) n) (option_map polled_in stage) (flag_at flags n)) → AreMarked reads' flags'
-marked-changed reads reads' flags flags' id r stage marked lookups put n =
-    put n ∙ at (is_at (nat_cmp id) n) stage ∙ sym (ap (option_map (λ (x : Read). polled_in x.stage)) (lookups n))
+    → ((n : ℕ) → is_raised words' n ≡ cond (id == n) (stays_polled stage) (is_raised words n)) → ((n : ℕ) → has_room words n ≡ true → has_room words' n ≡ true) → AreMarked reads' words'
+marked-changed reads reads' words words' id r stage marked there lookups put kept = record {
+  raised = λ n. put n ∙ at n (id == n) refl stage ∙ sym (ap polls_in (lookups n));
+  room = λ n h. kept n (room n (id == n) refl (sym (ap is_some (lookups n)) ∙ h));
+}
   where
-    at : (b : Bool) (o : Option Stage) → cond b (option_map polled_in o) (flag_at flags n) ≡ option_map (λ (x : Read). polled_in x.stage) (cond b (option_map (λ s. record { request = r; stage = s }) o) (entry_at reads n))
-    at true None = refl
-    at true (Some s) = refl
-    at false o = marked n
+    at : (n : ℕ) (b : Bool) → (id == n) ≡ b → (o : Option Stage) → cond (id == n) (stays_polled o) (is_raised words n)
+        ≡ polls_in (cond (is_at (nat_cmp id) n) (option_map (λ s. record { request = r; stage = s }) o) (entry_at reads n))
+    at n true e None = ap (λ t. cond t false (is_raised words n)) e ∙ sym (ap (λ t. polls_in (cond t None (entry_at reads n))) (at-eq id n ∙ e))
+    at n true e (Some s) = ap (λ t. cond t (polled_in s) (is_raised words n)) e ∙ sym (ap (λ t. polls_in (cond t (Some (record { request = r; stage = s })) (entry_at reads n))) (at-eq id n ∙ e))
+    at n false e o = ap (λ t. cond t (stays_polled o) (is_raised words n)) e ∙ marked.raised n
+        ∙ sym (ap (λ t. polls_in (cond t (option_map (λ s. record { request = r; stage = s }) o) (entry_at reads n))) (at-eq id n ∙ e))
 
--- and where a read is added
-pub marked-added : (reads reads' : Entries) (flags flags' : Flags) (r : ReadRequest) → AreMarked reads flags
-    → ((q : ℕ) → entry_at reads' q ≡ cond (is_at (nat_cmp r.id) q) (Some (record { request = r; stage = Registered })) (entry_at reads q))
-    → ((n : ℕ) → flag_at flags' n ≡ cond (is_at (nat_cmp r.id) n) (Some false) (flag_at flags n)) → AreMarked reads' flags'
-marked-added reads reads' flags flags' r marked lookups put = marked-changed reads reads' flags flags' r.id r (Some Registered) marked lookups put
+    room : (n : ℕ) (b : Bool) → (id == n) ≡ b → is_some (cond (is_at (nat_cmp id) n) (option_map (λ s. record { request = r; stage = s }) stage) (entry_at reads n)) ≡ true → has_room words n ≡ true
+    room n true e h =
+        let same : id ≡ n = grind (arith, nat_tests) in
+        marked.room n (subst (λ m. is_some (entry_at reads m) ≡ true) same there)
+    room n false e h = marked.room n (sym (ap (λ t. is_some (cond t (option_map (λ s. record { request = r; stage = s }) stage) (entry_at reads n))) (at-eq id n ∙ e)) ∙ h)
 
--- and where a flag was put in and taken out again
-pub marked-back : (reads reads' : Entries) (flags mid flags' : Flags) (id : ℕ) → AreMarked reads flags → entry_at reads id ≡ None → reads' ≡ reads
-    → ((n : ℕ) → flag_at mid n ≡ cond (is_at (nat_cmp id) n) (Some false) (flag_at flags n))
-    → ((n : ℕ) → flag_at flags' n ≡ cond (is_at (nat_cmp id) n) None (flag_at mid n)) → AreMarked reads' flags'
-marked-back reads reads' flags mid flags' id marked fresh same put back n =
-    back n ∙ at (is_at (nat_cmp id) n) refl ∙ marked n ∙ sym (ap (λ (es : Entries). option_map (λ (x : Read). polled_in x.stage) (entry_at es n)) same)
+-- and where room is made for a bit
+pub marked-kept : (reads : Entries) (words words' : Words) → AreMarked reads words → ((n : ℕ) → is_raised words' n ≡ is_raised words n) → ((n : ℕ) → has_room words n ≡ true → has_room words' n ≡ true) → AreMarked reads words'
+marked-kept reads words words' marked same kept = record {
+  raised = λ n. same n ∙ marked.raised n;
+  room = λ n h. kept n (marked.room n h);
+}
+
+-- and where a read is added that has a bit
+pub marked-added : (reads reads' : Entries) (words : Words) (r : ReadRequest) → AreMarked reads words → entry_at reads r.id ≡ None → has_room words r.id ≡ true
+    → ((q : ℕ) → entry_at reads' q ≡ cond (is_at (nat_cmp r.id) q) (Some (record { request = r; stage = Registered })) (entry_at reads q)) → AreMarked reads' words
+marked-added reads reads' words r marked fresh there lookups = record {
+  raised = λ n. raised n (is_at (nat_cmp r.id) n) refl ∙ sym (ap polls_in (lookups n));
+  room = λ n h. room n (is_at (nat_cmp r.id) n) refl (sym (ap is_some (lookups n)) ∙ h);
+}
   where
-    at : (b : Bool) → is_at (nat_cmp id) n ≡ b → cond b None (flag_at mid n) ≡ flag_at flags n
-    at true e =
-        let here : id ≡ n = grind (arith, nat_tests) in
-        sym (subst (λ m. flag_at flags m ≡ None) here (marked id ∙ ap (option_map (λ (x : Read). polled_in x.stage)) fresh))
-    at false e = put n ∙ ap (λ b. cond b (Some false) (flag_at flags n)) e
+    here : (n : ℕ) → is_at (nat_cmp r.id) n ≡ true → r.id ≡ n
+    here n e = grind (arith, nat_tests)
 
--- a raised flag is that of a polled read
-pub raised-polled : (reads : Entries) (flags : Flags) → AreMarked reads flags → (q : ℕ) → is_raised flags q ≡ polled_entry reads q
-raised-polled reads flags marked q = ap (λ o. unwrap_or o false) (marked q) ∙ at (entry_at reads q)
+    raised : (n : ℕ) (b : Bool) → is_at (nat_cmp r.id) n ≡ b → is_raised words n ≡ polls_in (cond (is_at (nat_cmp r.id) n) (Some (record { request = r; stage = Registered })) (entry_at reads n))
+    raised n true e = subst (λ m. is_raised words m ≡ false) (here n e) (marked.raised r.id ∙ ap polls_in fresh) ∙ sym (ap (λ t. polls_in (cond t (Some (record { request = r; stage = Registered })) (entry_at reads n))) e)
+    raised n false e = marked.raised n ∙ sym (ap (λ t. polls_in (cond t (Some (record { request = r; stage = Registered })) (entry_at reads n))) e)
+
+    room : (n : ℕ) (b : Bool) → is_at (nat_cmp r.id) n ≡ b → is_some (cond (is_at (nat_cmp r.id) n) (Some (record { request = r; stage = Registered })) (entry_at reads n)) ≡ true → has_room words n ≡ true
+    room n true e h = subst (λ m. has_room words m ≡ true) (here n e) there
+    room n false e h = marked.room n (sym (ap (λ t. is_some (cond t (Some (record { request = r; stage = Registered })) (entry_at reads n))) e) ∙ h)
+
+-- the bit that is set is that of a polled read
+pub raised-polled : (reads : Entries) (words : Words) → AreMarked reads words → (q : ℕ) → is_raised words q ≡ polled_entry reads q
+raised-polled reads words marked q = marked.raised q ∙ at (entry_at reads q)
   where
-    at : (x : Option Read) → unwrap_or (option_map (λ (y : Read). polled_in y.stage) x) false ≡ if_polls x
+    at : (x : Option Read) → polls_in x ≡ if_polls x
     at None = refl
     at (Some x) = refl
 
--- a read without an entry has no flag
-pub unmarked : (reads : Entries) (flags : Flags) → AreMarked reads flags → (id : ℕ) → entry_at reads id ≡ None → flag_at flags id ≡ None
-unmarked reads flags marked id e = marked id ∙ ap (option_map (λ (x : Read). polled_in x.stage)) e
-
 -- a polled read has a number in range
-pub polled-small : (reads : Entries) (places : BTreeSet (ℕ × ℕ)) (longest : ℕ) → IsKept reads places longest → (q : ℕ) → polled_entry reads q ≡ true → q < 2 ^ 64
+pub polled-small : (reads : Entries) (places : Places) (longest : ℕ) → IsKept reads places longest → (q : ℕ) → polled_entry reads q ≡ true → q < 2 ^ 64
 polled-small reads places longest t q h = at (entry_at reads q) refl h
   where
     at : (x : Option Read) → entry_at reads q ≡ x → if_polls x ≡ true → q < 2 ^ 64
@@ -359,10 +457,10 @@ found-some P reads id h None e = absurd (polled-waits reads id h (sym e))
 found-some P reads id h (Some r) e = tt
 
 -- a table without reads
-pub empty_table : (entries : Entries) (places : BTreeSet (ℕ × ℕ)) (flags : Flags) → entries ≡ [] → places.keys ≡ [] → flags ≡ [] → IsTable entries places 0 flags
-empty_table entries places flags e p f = subst (λ (es : Entries). IsTable es places 0 flags) (sym e) (subst (λ (fs : Flags). IsTable [] places 0 fs) (sym f) (record {
+pub empty_table : (entries : Entries) (places : Places) (words : Words) → entries ≡ [] → places.set.keys ≡ [] → words ≡ [] → IsTable entries places 0 words
+empty_table entries places words e p w = subst (λ (es : Entries). IsTable es places 0 words) (sym e) (subst (λ (ws : Words). IsTable [] places 0 ws) (sym w) (record {
   kept = record {
-    tied = λ offset id. ap (λ keys. list_any (is_at (place_cmp (offset, id))) keys) p;
+    tied = λ offset id _. ap (λ keys. list_any (is_at (place_cmp (offset, id))) keys) p;
     sorted = sorted_from_strictly_increasing [] (search rules);
     keyed = λ id x h. cc;
     small = λ id x h. cc;
@@ -370,5 +468,5 @@ empty_table entries places flags e p f = subst (λ (es : Entries). IsTable es pl
     fits = λ id x h. cc;
   };
   grouped = record { named = λ n h. cc; sizes = λ id n size h. cc };
-  marked = λ n. refl;
+  marked = record { raised = λ n. ap (λ b. b == 1) (bit_at-zero (n % 64)); room = λ n h. cc };
 }))

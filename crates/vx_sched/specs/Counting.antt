@@ -5,7 +5,7 @@ use Rattle.vx_sched.specs.Entries.{Entries, polled_in, flies_under}
 use Rattle.vx_sched.specs.declared.counts.Counts.{Counts}
 use Rattle.vx_sched.specs.declared.counts.Kind.{Kind}
 use Rattle.vx_sched.specs.declared.counts.Kind.TheVariants.{IsRegistered, IsPolled, IsFlying, IsResolved, Leads}
-use Rattle.vx_sched.specs.declared.read.Read.{Read}
+use Rattle.vx_sched.specs.Stored.{Read}
 use Rattle.vx_sched.specs.declared.read.ReadState.{ReadState}
 use Rattle.vx_sched.specs.declared.read.ReadState.TheVariants as state
 use Rattle.vx_sched.specs.declared.read.Stage.{Stage}

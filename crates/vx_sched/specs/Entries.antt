@@ -1,12 +1,12 @@
 -- The entries of the map of reads, by number, what happens to each, and the reads that they stand for.
-use Rattle.std.specs.Prelude.{ℕ, ◌==◌, Bool, true, false, List, [], ◌∷◌, map, Option, Some, None, if◌then◌else◌}
+use Rattle.std.specs.Prelude.{ℕ, ◌==◌, Bool, true, false, List, [], ◌∷◌, ◌++◌, map, Option, Some, None, option_to_list, if◌then◌else◌}
 use Rattle.std.specs.Map.{lookup, remove_entry}
 use Rattle.std.specs.BTreeMap.{insert_entry, is_at}
 use Rattle.std.specs.Ordering.{nat_cmp}
 use Rattle.vx_sched.specs.Reads.{Known, Reads}
 use Rattle.vx_sched.specs.Insert.{insert_read}
 use Rattle.vx_sched.specs.declared.request.ReadRequest.{ReadRequest}
-use Rattle.vx_sched.specs.declared.read.Read.{Read}
+use Rattle.vx_sched.specs.Stored.{Read}
 use Rattle.vx_sched.specs.declared.read.ReadState.{ReadState}
 use Rattle.vx_sched.specs.declared.read.ReadState.TheVariants as state
 use Rattle.vx_sched.specs.declared.read.Stage.{Stage}
@@ -60,6 +60,11 @@ flies_under n Resolved = false
 abbrev pub if_waits : Option Read → Option ReadRequest
 if_waits None = None
 if_waits (Some x) = if waits_in x.stage then Some x.request else None
+
+-- those of the reads of numbers that wait
+abbrev pub waiting_among : Entries → List ℕ → List ReadRequest
+waiting_among entries [] = []
+waiting_among entries (id ∷ rest) = option_to_list (if_waits (entry_at entries id)) ++ waiting_among entries rest
 
 -- the reads in flight in the span of a number, in order
 abbrev pub group : ℕ → Entries → List ReadRequest

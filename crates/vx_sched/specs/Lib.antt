@@ -5,6 +5,7 @@ pub mod Entries
 pub mod Flying
 pub mod Insert
 pub mod Io
+pub mod Kept
 pub mod Law
 pub mod Merging
 pub mod Numbered
@@ -16,3 +17,4 @@ pub mod Polls
 pub mod Reads
 pub mod Scheduling
 pub mod Span
+pub mod Stored

@@ -1,18 +1,14 @@
 -- The places of waiting reads: their offsets and numbers.
-use Rattle.std.specs.Prelude.{◌≡◌, ℕ, ◌<◌, ◌≤◌, ◌^◌, ◌==◌, ◌&&◌, Bool, true, false, length, Option, Some, None, if◌then◌else◌}
-use Rattle.std.specs.BTreeSet.{BTreeSet, contains}
+use Rattle.std.specs.Prelude.{◌≡◌, ℕ, ◌<◌, ◌^◌, ◌==◌, ◌&&◌, Bool, true, false, length, Option, Some, None, if◌then◌else◌}
 use Rattle.std.specs.Ordering.{nat_cmp, ordering_then}
 use Rattle.std.specs.declared.cmp.Ordering.{Ordering}
 use Rattle.vx_sched.specs.Span.{end_of}
-use Rattle.std.specs.List.Sorted.{IsStrictlySortedBy}
-use Rattle.std.specs.Map.{keys_of}
 use Rattle.vx_sched.specs.Reads.{Reads, waiting_at, has_first}
 use Rattle.vx_sched.specs.Merging.{first_number}
 use Rattle.vx_sched.specs.Entries.{Entries, entry_at, waits_in, group}
-use Rattle.vx_sched.specs.Polls.{Flags, AreMarked}
 use Rattle.vx_sched.specs.declared.read.Stage.TheVariants.{Registered, Polled, InFlight, Resolved}
 use Rattle.vx_sched.specs.declared.request.ReadRequest.{ReadRequest}
-use Rattle.vx_sched.specs.declared.read.Read.{Read}
+use Rattle.vx_sched.specs.Stored.{Read}
 use Rattle.vx_sched.specs.declared.read.Stage.{Stage}
 
 -- the order of places
@@ -29,15 +25,6 @@ abbrev pub stays_waiting : Option Stage → Bool
 stays_waiting None = false
 stays_waiting (Some stage) = waits_in stage
 
--- entries, the places of those whose reads wait, and a length that none passes. Each number stands once
-pub record IsKept (entries : Entries) (places : BTreeSet (ℕ × ℕ)) (longest : ℕ) : Type 0 where
-  pub tied : (offset id : ℕ) → contains place_cmp places (offset, id) ≡ waits_at offset (entry_at entries id)
-  pub sorted : IsStrictlySortedBy nat_cmp (keys_of entries)
-  pub keyed : (id : ℕ) (x : Read) → entry_at entries id ≡ Some x → x.request.id ≡ id
-  pub small : (id : ℕ) (x : Read) → entry_at entries id ≡ Some x → id < 2 ^ 64
-  pub long : (id : ℕ) (x : Read) → entry_at entries id ≡ Some x → x.request.length ≤ longest
-  pub fits : (id : ℕ) (x : Read) → entry_at entries id ≡ Some x → end_of x.request < 2 ^ 64
-
 abbrev pub size_of : ℕ → Stage → Option ℕ
 size_of n Registered = None
 size_of n Polled = None
@@ -53,12 +40,6 @@ size_in n (Some x) = size_of n x.stage
 pub record AreGrouped (entries : Entries) : Type 0 where
   pub named : (n : ℕ) → has_first (group n entries) ≡ true → first_number (group n entries) ≡ n
   pub sizes : (id n size : ℕ) → size_in n (entry_at entries id) ≡ Some size → length (group n entries) ≡ size
-
--- entries with their places, spans and flags
-pub record IsTable (entries : Entries) (places : BTreeSet (ℕ × ℕ)) (longest : ℕ) (flags : Flags) : Type 0 where
-  pub kept : IsKept entries places longest
-  pub grouped : AreGrouped entries
-  pub marked : AreMarked entries flags
 
 -- each waiting read ends in range
 abbrev pub AllFit : Reads → Type 0

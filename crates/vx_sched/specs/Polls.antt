@@ -1,35 +1,57 @@
--- Flags of numbers, and flags over blocks of 64 of them.
-use Rattle.std.specs.Prelude.{◌≡◌, ℕ, ◌/◌, ◌<◌, ◌^◌, Bool, true, false, List, Option, is_some, unwrap_or, option_map}
+-- Bits of numbers in words of 64, and bits of words over them.
+use Rattle.std.specs.Prelude.{◌≡◌, ℕ, ◌/◌, ◌%◌, ◌<◌, ◌^◌, ◌==◌, nat_lt, Bool, true, false, List, Option, Some, None, is_some, unwrap_or}
+use Rattle.std.specs.Int.{bit_at}
 use Rattle.std.specs.Map.{lookup}
 use Rattle.std.specs.BTreeMap.{is_at}
 use Rattle.std.specs.Ordering.{nat_cmp}
 use Rattle.vx_sched.specs.Entries.{Entries, entry_at, polled_in}
-use Rattle.vx_sched.specs.declared.read.Read.{Read}
+use Rattle.vx_sched.specs.Stored.{Read}
+use Rattle.vx_sched.specs.declared.read.Stage.{Stage}
 
--- flags by number, in order
-abbrev pub Flags : Type 0
-Flags = List (ℕ × Bool)
+-- words by block, in order
+abbrev pub Words : Type 0
+Words = List (ℕ × ℕ)
 
--- the flag of a number
-abbrev pub flag_at : Flags → ℕ → Option Bool
-flag_at flags n = lookup (is_at (nat_cmp n)) flags
+abbrev pub or_zero : Option ℕ → ℕ
+or_zero o = unwrap_or o 0
 
--- whether a number has a flag
-abbrev pub has_flag : Flags → ℕ → Bool
-has_flag flags n = is_some (flag_at flags n)
+-- the word of a block, which is 0 where there is none
+abbrev pub word_at : Words → ℕ → ℕ
+word_at words b = or_zero (lookup (is_at (nat_cmp b)) words)
 
--- whether the flag of a number is raised
-abbrev pub is_raised : Flags → ℕ → Bool
-is_raised flags n = unwrap_or (flag_at flags n) false
+-- whether a block has a word
+abbrev pub has_word : Words → ℕ → Bool
+has_word words b = is_some (lookup (is_at (nat_cmp b)) words)
 
--- flags over blocks of 64 numbers: a number with a flag is in a block with a flag, and the flag of a block is raised
--- exactly where that of one of its numbers is
-pub record Covers (flags blocks : Flags) : Type 0 where
-  pub room : (n : ℕ) → has_flag flags n ≡ true → has_flag blocks (n / 64) ≡ true
-  pub raised : (n : ℕ) → is_raised flags n ≡ true → is_raised blocks (n / 64) ≡ true
-  pub held : (b : ℕ) → is_raised blocks b ≡ true → (n : ℕ) × ((n / 64 ≡ b) × (is_raised flags n ≡ true))
-  pub small : (b : ℕ) → has_flag blocks b ≡ true → b < 2 ^ 58
+-- whether a number has a bit
+abbrev pub has_room : Words → ℕ → Bool
+has_room words n = has_word words (n / 64)
 
--- the flag of each read says whether it is polled
-abbrev pub AreMarked : Entries → Flags → Type 0
-AreMarked entries flags = (n : ℕ) → flag_at flags n ≡ option_map (λ (x : Read). polled_in x.stage) (entry_at entries n)
+-- whether the bit of a number is set
+abbrev pub is_raised : Words → ℕ → Bool
+is_raised words n = bit_at (word_at words (n / 64)) (n % 64) == 1
+
+-- whether a word that may be there has a bit set
+abbrev pub IsUp : Option ℕ → Type 0
+IsUp o = 0 < or_zero o
+
+-- words, and groups of bits over them: a block with a word has a bit, and that is set exactly where a bit of the word is
+pub record Covers (words groups : Words) : Type 0 where
+  pub room : (b : ℕ) → has_word words b ≡ true → has_room groups b ≡ true
+  pub tied : (b : ℕ) → is_raised groups b ≡ nat_lt 0 (word_at words b)
+  pub small : (b : ℕ) → has_word words b ≡ true → b < 2 ^ 58
+  pub few : (b : ℕ) → has_word groups b ≡ true → b < 2 ^ 58
+
+-- whether a read, if there is one, is polled
+abbrev pub polls_in : Option Read → Bool
+polls_in None = false
+polls_in (Some x) = polled_in x.stage
+
+abbrev pub stays_polled : Option Stage → Bool
+stays_polled None = false
+stays_polled (Some stage) = polled_in stage
+
+-- each read has a bit, which says whether it is polled, and no other bit is set
+pub record AreMarked (entries : Entries) (words : Words) : Type 0 where
+  pub raised : (n : ℕ) → is_raised words n ≡ polls_in (entry_at entries n)
+  pub room : (n : ℕ) → is_some (entry_at entries n) ≡ true → has_room words n ≡ true

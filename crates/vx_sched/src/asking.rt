@@ -49,7 +49,7 @@ fn match_answers(
     ensures bytes { (b : List ℕ) → All (IsTrueTo b) answers.items → IfOk result (λ all. HaveBytesOf b asked.now all.items) }
 {
     let mut answers = answers;
-    let mut all = Vec::new(alloc);
+    let mut all = Vec::with_capacity(alloc, asked.len())?;
     for range in asked {
         let answer = take_answer(&mut answers, range);
         all.push(outcome(range, answer))?;

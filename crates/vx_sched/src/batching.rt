@@ -1,5 +1,6 @@
 //! Making the spans of a batch.
-ghost use Rattle.std.specs.Prelude.{◌≡◌, ℕ, ◌<◌, ◌^◌, ◌||◌, ◌∷◌, [], Some, IfOk, OnOk};
+ghost use Rattle.std.specs.List.{list_any};
+ghost use Rattle.std.specs.Prelude.{◌≡◌, ℕ, ◌==◌, ◌<◌, ◌^◌, ◌||◌, ◌∷◌, [], Some, IfOk, OnOk};
 ghost use Rattle.std.specs.BTreeSet.{contains};
 ghost use Rattle.std.specs.Ordering.{nat_cmp};
 ghost use Rattle.vx_sched.specs.Span.{end_of};
@@ -25,7 +26,7 @@ pub fn lone(alloc: Global, first: ReadRequest) -> Result<CoalescedRequest, Alloc
     let start = first.offset;
     let end = start + first.length as u64;
     let alignment = first.alignment;
-    let mut reads = Vec::new(alloc);
+    let mut reads = Vec::with_capacity(alloc, 1)?;
     reads.push(first)?;
     Ok(CoalescedRequest::within(start, end, alignment, reads))
 }
@@ -51,14 +52,33 @@ pub fn gathered(
     Ok(CoalescedRequest::within(start, end, alignment, reads))
 }
 
-/// Adds the numbers of reads.
-pub fn add_numbers(numbers: &mut BTreeSet<u64>, reads: &[ReadRequest]) -> Result<(), AllocError>
+/// The numbers of reads, in order.
+fn sorted_numbers(alloc: Global, reads: &[ReadRequest]) -> Result<Vec<u64>, AllocError>
+    ensures { IfOk result (λ numbers. (q : ℕ) → list_any (λ n. n == q) numbers.items ≡ is_listed reads.now q) }
+{
+    let mut numbers = Vec::with_capacity(alloc, reads.len())?;
+    for read in reads {
+        numbers.push(read.id)?;
+    }
+    numbers.sort_unstable();
+    Ok(numbers)
+}
+
+/// Adds the numbers of reads, in order, since a tree takes them fastest so.
+pub fn add_numbers(
+    alloc: Global,
+    numbers: &mut BTreeSet<u64>,
+    reads: &[ReadRequest],
+) -> Result<(), AllocError>
     ensures { OnOk result ((q : ℕ) → contains nat_cmp numbers.new q
         ≡ (contains nat_cmp numbers.old q || is_listed reads.now q)) }
 {
-    for read in reads {
-        let id = read.id;
-        numbers.insert(id)?;
+    if let [read] = reads {
+        numbers.insert(read.id)?;
+        return Ok(());
+    }
+    for number in sorted_numbers(alloc, reads)? {
+        numbers.insert(number)?;
     }
     Ok(())
 }

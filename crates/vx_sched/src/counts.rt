@@ -51,7 +51,7 @@ fn is_slot_kind(kind: Kind, slot: &Slot<Read>) -> bool
     ensures { result ≡ slot_is kind slot.now.value }
 {
     match slot.value {
-        Some(read) => is_kind(kind, read.request.id, &read.stage),
+        Some(read) => is_kind(kind, read.request().id, &read.stage()),
         None => false,
     }
 }

@@ -72,7 +72,9 @@ fn flies(span: u64, size: usize, request: &ReadRequest, found: Option<Read>) -> 
 {
     match found {
         None => false,
-        Some(read) => is_in_span(&read.stage, span, size) && is_same_read(&read.request, request),
+        Some(read) => {
+            is_in_span(&read.stage(), span, size) && is_same_read(&read.request(), request)
+        }
     }
 }
 

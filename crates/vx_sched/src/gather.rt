@@ -6,6 +6,7 @@
 //! too long and stays so as the range grows, so a pass looks only at what earlier ones did not.
 ghost use Rattle.std.specs.Prelude.{◌≡◌, ◌+◌, ◌-◌, ◌<◌, ◌≤◌, ◌^◌, ◌∷◌, [], true, false, Some, max, min, IfOk, IfSome, OnOk};
 ghost use Rattle.std.specs.BTreeMap.{insert_entry, values};
+ghost use Rattle.vx_sched.specs.Reads.{waiting_at};
 ghost use Rattle.vx_sched.specs.Span.{end_of};
 ghost use Rattle.vx_sched.specs.Merging.{is_before, is_listed, aligned_size, IsTooLong, IsWithinLimit};
 ghost use Rattle.vx_sched.specs.Places.{place_cmp, AllFit};
@@ -92,7 +93,7 @@ impl Picks {
     pub fn into_reads(self, alloc: Global) -> Result<Vec<ReadRequest>, AllocError>
         ensures { IfOk result (λ v. v.items ≡ values self.reads) }
     {
-        let mut reads = Vec::new(alloc);
+        let mut reads = Vec::with_capacity(alloc, self.reads.len())?;
         for read in self.reads.into_values() {
             reads.push(read)?;
         }
@@ -115,25 +116,27 @@ impl Picks {
         Ok(())
     }
 
-    /// Looks at the read of a number, and picks it where it waits in the bounds and fits.
+    /// Looks at a waiting read, and picks it where no earlier span has it, and it lies in the bounds and fits.
     fn look(
         &mut self,
         table: &Table,
         before: &BTreeSet<u64>,
         rules: &Rules,
         bounds: Bounds,
-        id: u64,
+        read: ReadRequest,
     ) -> Result<(), AllocError>
+        requires waits { waiting_at table.now read.id ≡ Some read }
+        requires fits { end_of read < 2 ^ 64 }
         requires picked { IsPicked rules.now table.now before.now self.old }
         requires left { self.old.low ≤ bounds.left + rules.now.distance }
         requires right { bounds.right ≤ self.old.high + rules.now.distance }
         ensures picked { OnOk result (IsPicked rules.now table.now before.now self.new) }
         ensures more { OnOk result (PickedMore self.old self.new) }
-        ensures looked { OnOk result (IsLookedAt rules.now table.now before.now bounds.left 0 bounds.right self.new id) }
+        ensures looked { OnOk result (IsLookedAt rules.now table.now before.now bounds.left 0 bounds.right self.new read.id) }
     {
-        let Some(read) = free_read(table, before, id) else {
+        if before.contains(&read.id) {
             return Ok(());
-        };
+        }
         let end = read.offset + read.length as u64;
         if end < bounds.left || read.offset > bounds.right {
             return Ok(());
@@ -146,18 +149,6 @@ impl Picks {
         }
         self.add(read)?;
         Ok(())
-    }
-}
-
-/// The waiting read of a number that no earlier span has.
-fn free_read(table: &Table, before: &BTreeSet<u64>, id: u64) -> Option<ReadRequest>
-    ensures value { result ≡ free_at table.now before.now id }
-    ensures keyed { IfSome result (λ r. (r.id ≡ id) × (end_of r < 2 ^ 64)) }
-{
-    if before.contains(&id) {
-        None
-    } else {
-        table.waiting(id)
     }
 }
 
@@ -179,9 +170,9 @@ fn look_between(
     ensures looked { OnOk result (AreLookedAt rules.now table.now before.now bounds.left from bounds.right picks.new) }
     ensures fit { AllFit table.now }
 {
-    let ids = table.places_near(alloc, bounds.left, from, bounds.right)?;
-    for id in &ids {
-        picks.look(table, before, rules, bounds, *id)?;
+    let reads = table.reads_near(alloc, bounds.left, from, bounds.right)?;
+    for read in &reads {
+        picks.look(table, before, rules, bounds, *read)?;
     }
     Ok(())
 }

@@ -4,6 +4,7 @@
 
 mod asking;
 mod batching;
+mod bits;
 mod counts;
 mod event;
 mod fault;
@@ -13,6 +14,7 @@ mod io_request;
 mod law;
 mod metrics;
 mod numbered;
+mod places;
 mod polls;
 mod read;
 mod request;

@@ -5,7 +5,7 @@
 //! the slots are empty.
 ghost use Rattle.std.specs.Prelude.{◌≡◌, ℕ, ◌<◌, ◌≤◌, [], None, Some, cond, length, slice_get, slice_set, OnOk, OnErr, IfOk, IfErr};
 ghost use Rattle.std.specs.BTreeMap.{insert_entry, is_at};
-ghost use Rattle.std.specs.Map.{lookup, remove_entry};
+ghost use Rattle.std.specs.Map.{keys_of, lookup, remove_entry};
 ghost use Rattle.std.specs.Ordering.{nat_cmp};
 ghost use Rattle.vx_sched.specs.Numbered.{held, is_full, RiseFrom, IsGap, IsSlot};
 ghost use Rattle.std.specs.List.{filter};
@@ -191,5 +191,20 @@ impl<V: Copy> Numbered<V> {
         ensures rise { RiseFrom 0 result.now }
     {
         self.slots.as_slice()
+    }
+
+    /// The numbers that have a value, in order. Only memory refuses.
+    pub fn numbers(&self, alloc: Global) -> Result<Vec<u64>, AllocError>
+        ensures { IfOk result (λ numbers. numbers.items ≡ keys_of self.now) }
+    {
+        let mut numbers = Vec::new(alloc);
+        let slots = self.slots();
+        for slot in slots {
+            if slot.value.is_none() {
+                continue;
+            }
+            numbers.push(slot.number)?;
+        }
+        Ok(numbers)
     }
 }

@@ -1,59 +1,107 @@
 //! Which numbers of reads are polled.
 //!
-//! Each number has a flag, each block of 64 numbers one that says whether one of them is raised, and each group of
-//! 64 blocks one over these. So the least raised flag is found past few others, and raising one takes no memory.
-ghost use Rattle.std.specs.Prelude.{◌≡◌, ℕ, ◌/◌, ◌<◌, ◌≤◌, ◌^◌, [], None, Some, cond, true, false, is_some, IfSome, IfNone, OnOk, OnErr, unwrap_or};
-ghost use Rattle.std.specs.BTreeMap.{is_at};
-ghost use Rattle.std.specs.Ordering.{nat_cmp};
-ghost use Rattle.vx_sched.specs.Polls.{flag_at, has_flag, is_raised, Covers};
+//! A word has a bit for each of 64 numbers, and a word of groups one for each of 64 words, which says whether a bit
+//! of that is set. So the least polled number is found past few words, and marking one takes no memory.
+ghost use Rattle.std.specs.Prelude.{◌≡◌, ℕ, ◌/◌, ◌%◌, ◌<◌, ◌≤◌, ◌==◌, ◌^◌, [], cond, true, false, IfSome, IfNone, OnOk};
+ghost use Rattle.vx_sched.specs.Polls.{word_at, has_word, has_room, is_raised, IsUp, Covers};
 
+use crate::bits::{first_bit, with_bit};
 use crate::numbered::{Numbered, Slot, place_of};
 use std::alloc::{AllocError, Global};
 use std::marker::Model;
 
-/// A flag for each number, and over them flags of blocks, and of groups of blocks.
+/// Words of bits of numbers, and over them words of bits of words.
 #[derive(Drop)]
 pub struct Polls {
-    numbers: Numbered<bool>,
-    blocks: Numbered<bool>,
-    groups: Numbered<bool>,
+    words: Numbered<u64>,
+    groups: Numbered<u64>,
 }
 
 impl Model for Polls {
-    ghost use Rattle.vx_sched.specs.Polls.{Flags, Covers};
+    ghost use Rattle.vx_sched.specs.Polls.{Words, Covers};
 
-    ghost Value = { Flags };
+    ghost Value = { Words };
 
-    ghost view = { λ p. p.numbers };
+    ghost view = { λ p. p.words };
 
-    ghost invariant = { λ p. Covers p.numbers p.blocks × Covers p.blocks p.groups };
+    ghost invariant = { λ p. Covers p.words p.groups };
 }
 
-/// Whether the flag of a slot is raised.
-fn is_up(slot: &Slot<bool>) -> bool
-    ensures up { result ≡ true → slot.now.value ≡ Some true }
-    ensures low { result ≡ false → slot.now.value ≡ Some true → ⊥ }
+/// The word of a block of numbers, which is 0 where there is none.
+fn word_of(words: &Numbered<u64>, block: u64) -> u64
+    ensures { result ≡ word_at words.now block }
+{
+    match words.get(block) {
+        Some(word) => word,
+        None => 0,
+    }
+}
+
+/// Gives a block a word without bits, if it has none.
+fn open_word(words: &mut Numbered<u64>, block: u64) -> Result<(), AllocError>
+    ensures same { (b : ℕ) → word_at words.new b ≡ word_at words.old b }
+    ensures kept { (b : ℕ) → has_word words.old b ≡ true → has_word words.new b ≡ true }
+    ensures only { (b : ℕ) → has_word words.new b ≡ true → (block == b) ≡ false → has_word words.old b ≡ true }
+    ensures there { OnOk result (has_word words.new block ≡ true) }
+{
+    if words.get(block).is_some() {
+        return Ok(());
+    }
+    words.put(block, 0)?;
+    Ok(())
+}
+
+/// Sets or clears the bit of a number in the word of its block.
+fn set_bit(words: &mut Numbered<u64>, number: u64, is_set: bool)
+    requires { has_room words.old number ≡ true }
+    ensures bits { (n : ℕ) → is_raised words.new n ≡ cond (number == n) is_set (is_raised words.old n) }
+    ensures others { (b : ℕ) → (number / 64 == b) ≡ false → word_at words.new b ≡ word_at words.old b }
+    ensures kept { (b : ℕ) → has_word words.new b ≡ has_word words.old b }
+{
+    let block = number / 64;
+    let word = with_bit(word_of(words, block), number % 64, is_set);
+    match words.put(block, word) {
+        Ok(()) => {}
+        Err(_) => unreachable!(),
+    }
+}
+
+/// The least number from one on, within its block, whose bit is set.
+fn first_in_block(words: &Numbered<u64>, from: u64) -> Option<u64>
+    ensures raised { IfSome result (λ n. is_raised words.now n ≡ true) }
+    ensures after { IfSome result (λ n. from ≤ n) }
+    ensures least { IfSome result (λ n. (q : ℕ) → from ≤ q → q < n → is_raised words.now q ≡ false) }
+    ensures none { IfNone result ((q : ℕ) → from ≤ q → q / 64 ≡ from / 64 → is_raised words.now q ≡ false) }
+    ensures empty { IfNone result (from % 64 ≡ 0 → word_at words.now (from / 64) ≡ 0) }
+{
+    let block = from / 64;
+    match first_bit(word_of(words, block), from % 64) {
+        Some(place) => Some(block * 64 + place),
+        None => None,
+    }
+}
+
+/// Whether a bit of a slot's word is set.
+fn is_up(slot: &Slot<u64>) -> bool
+    ensures up { result ≡ true → IsUp slot.now.value }
+    ensures low { result ≡ false → IsUp slot.now.value → ⊥ }
 {
     match slot.value {
-        Some(flag) => flag,
+        Some(word) => word != 0,
         None => false,
     }
 }
 
-/// The least number within bounds whose flag is raised.
-fn first_raised(flags: &Numbered<bool>, from: u64, upto: u64) -> Option<u64>
-    requires { from ≤ upto }
-    ensures raised { IfSome result (λ n. is_raised flags.now n ≡ true) }
-    ensures within { IfSome result (λ n. (from ≤ n) × (n ≤ upto)) }
-    ensures least { IfSome result (λ n. (q : ℕ) → from ≤ q → q < n → is_raised flags.now q ≡ false) }
-    ensures none { IfNone result ((q : ℕ) → from ≤ q → q ≤ upto → is_raised flags.now q ≡ false) }
+/// The least block from one on that has a bit set.
+fn next_word(words: &Numbered<u64>, from: u64) -> Option<u64>
+    ensures some { IfSome result (λ b. 0 < word_at words.now b) }
+    ensures after { IfSome result (λ b. from ≤ b) }
+    ensures least { IfSome result (λ b. (q : ℕ) → from ≤ q → q < b → word_at words.now q ≡ 0) }
+    ensures none { IfNone result ((q : ℕ) → from ≤ q → word_at words.now q ≡ 0) }
 {
-    let slots = flags.slots();
+    let slots = words.slots();
     for at in place_of(slots, from)..slots.len() {
         let slot = &slots[at];
-        if slot.number > upto {
-            return None;
-        }
         if is_up(slot) {
             return Some(slot.number);
         }
@@ -61,105 +109,21 @@ fn first_raised(flags: &Numbered<bool>, from: u64, upto: u64) -> Option<u64>
     None
 }
 
-/// Whether a number within bounds has a flag.
-fn has_any(flags: &Numbered<bool>, from: u64, upto: u64) -> bool
-    requires { from ≤ upto }
-    ensures { result ≡ false → (q : ℕ) → from ≤ q → q ≤ upto → has_flag flags.now q ≡ false }
+/// The least block from one on that has a bit set, by the bits of groups over blocks.
+fn next_block(words: &Numbered<u64>, groups: &Numbered<u64>, from: u64) -> Option<u64>
+    requires { Covers words.now groups.now }
+    ensures some { IfSome result (λ b. 0 < word_at words.now b) }
+    ensures after { IfSome result (λ b. from ≤ b) }
+    ensures least { IfSome result (λ b. (q : ℕ) → from ≤ q → q < b → word_at words.now q ≡ 0) }
+    ensures none { IfNone result ((q : ℕ) → from ≤ q → word_at words.now q ≡ 0) }
 {
-    let slots = flags.slots();
-    for at in place_of(slots, from)..slots.len() {
-        let slot = &slots[at];
-        if slot.number > upto {
-            return false;
-        }
-        if slot.value.is_some() {
-            return true;
-        }
-    }
-    false
-}
-
-/// The flag that a block is to have: none where its numbers have none, and else whether one is raised.
-fn over(flags: &Numbered<bool>, block: u64) -> Option<bool>
-    requires { block < 2 ^ 58 }
-    ensures none { result ≡ None → (n : ℕ) → n / 64 ≡ block → has_flag flags.now n ≡ false }
-    ensures low { unwrap_or result false ≡ false → (n : ℕ) → n / 64 ≡ block → is_raised flags.now n ≡ false }
-    ensures held { result ≡ Some true → (n : ℕ) × ((n / 64 ≡ block) × (is_raised flags.now n ≡ true)) }
-{
-    let first = block * 64;
-    if first_raised(flags, first, first + 63).is_some() {
-        return Some(true);
-    }
-    if has_any(flags, first, first + 63) {
-        return Some(false);
-    }
-    None
-}
-
-/// Gives a number without a flag a lowered one.
-fn add_flag(flags: &mut Numbered<bool>, number: u64) -> Result<(), AllocError>
-    requires { flag_at flags.old number ≡ None }
-    ensures opened { OnOk result ((n : ℕ) → flag_at flags.new n
-        ≡ cond (is_at (nat_cmp number) n) (Some (is_raised flags.old number)) (flag_at flags.old n)) }
-    ensures kept { OnErr result (flags.new ≡ flags.old) }
-{
-    flags.put(number, false)?;
-    Ok(())
-}
-
-/// Gives a number a lowered flag, if it has none.
-fn open_flag(flags: &mut Numbered<bool>, number: u64) -> Result<(), AllocError>
-    ensures opened { OnOk result ((n : ℕ) → flag_at flags.new n
-        ≡ cond (is_at (nat_cmp number) n) (Some (is_raised flags.old number)) (flag_at flags.old n)) }
-    ensures kept { OnErr result (flags.new ≡ flags.old) }
-{
-    if flags.get(number).is_some() {
-        return Ok(());
-    }
-    add_flag(flags, number)
-}
-
-/// Gives a number, which has a flag, another one or none.
-fn put_flag(flags: &mut Numbered<bool>, number: u64, flag: Option<bool>)
-    requires { has_flag flags.old number ≡ true }
-    ensures { (n : ℕ) → flag_at flags.new n ≡ cond (is_at (nat_cmp number) n) flag (flag_at flags.old n) }
-{
-    match flag {
-        Some(flag) => match flags.put(number, flag) {
-            Ok(()) => {}
-            Err(_) => unreachable!(),
-        },
-        None => flags.remove(number),
-    }
-}
-
-/// Whether a number has this flag, or has none where this is none.
-fn has_this(flags: &Numbered<bool>, number: u64, flag: Option<bool>) -> bool
-    ensures { result ≡ true → flag_at flags.now number ≡ flag }
-{
-    match (flags.get(number), flag) {
-        (Some(there), Some(flag)) => there == flag,
-        (None, None) => true,
-        _ => false,
-    }
-}
-
-/// The least block from one on whose flag is raised, by the flags of groups over them.
-fn next_block(blocks: &Numbered<bool>, groups: &Numbered<bool>, from: u64) -> Option<u64>
-    requires { Covers blocks.now groups.now }
-    ensures raised { IfSome result (λ n. is_raised blocks.now n ≡ true) }
-    ensures after { IfSome result (λ n. from ≤ n) }
-    ensures least { IfSome result (λ n. (q : ℕ) → from ≤ q → q < n → is_raised blocks.now q ≡ false) }
-    ensures none { IfNone result ((q : ℕ) → from ≤ q → is_raised blocks.now q ≡ false) }
-{
-    let group = from / 64;
-    if let Some(block) = first_raised(blocks, from, group * 64 + 63) {
+    if let Some(block) = first_in_block(groups, from) {
         return Some(block);
     }
-    let Some(group) = first_raised(groups, group + 1, u64::MAX) else {
+    let Some(group) = next_word(groups, from / 64 + 1) else {
         return None;
     };
-    first_raised(blocks, group * 64, group * 64 + 63)
+    first_in_block(groups, group * 64)
 }
 
 impl Polls {
@@ -167,57 +131,48 @@ impl Polls {
         ensures { result ≡ [] }
     {
         Polls {
-            numbers: Numbered::new(alloc),
-            blocks: Numbered::new(alloc),
+            words: Numbered::new(alloc),
             groups: Numbered::new(alloc),
         }
     }
 
-    /// Gives a new number a lowered flag. Only memory refuses.
+    /// Makes room for the bit of a number. Only memory refuses.
     pub fn open(&mut self, number: u64) -> Result<(), AllocError>
-        requires { flag_at self.old number ≡ None }
-        ensures opened { OnOk result ((n : ℕ) → flag_at self.new n
-            ≡ cond (is_at (nat_cmp number) n) (Some false) (flag_at self.old n)) }
-        ensures kept { OnErr result (self.new ≡ self.old) }
+        ensures same { (n : ℕ) → is_raised self.new n ≡ is_raised self.old n }
+        ensures kept { (n : ℕ) → has_room self.old n ≡ true → has_room self.new n ≡ true }
+        ensures room { OnOk result (has_room self.new number ≡ true) }
     {
         let block = number / 64;
-        open_flag(&mut self.groups, block / 64)?;
-        open_flag(&mut self.blocks, block)?;
-        add_flag(&mut self.numbers, number)?;
+        open_word(&mut self.groups, block / 64)?;
+        open_word(&mut self.words, block)?;
         Ok(())
     }
 
-    /// Gives a number, which has a flag, another one or none.
-    pub fn put(&mut self, number: u64, flag: Option<bool>)
-        requires { has_flag self.old number ≡ true }
-        ensures { (n : ℕ) → flag_at self.new n ≡ cond (is_at (nat_cmp number) n) flag (flag_at self.old n) }
+    /// Says whether a number is polled.
+    pub fn put(&mut self, number: u64, is_polled: bool)
+        requires { has_room self.old number ≡ true }
+        ensures bits { (n : ℕ) → is_raised self.new n ≡ cond (number == n) is_polled (is_raised self.old n) }
+        ensures kept { (n : ℕ) → has_room self.old n ≡ true → has_room self.new n ≡ true }
     {
         let block = number / 64;
-        let group = block / 64;
-        put_flag(&mut self.numbers, number, flag);
-        let of_block = over(&self.numbers, block);
-        if has_this(&self.blocks, block, of_block) {
-            return;
-        }
-        put_flag(&mut self.blocks, block, of_block);
-        let of_group = over(&self.blocks, group);
-        put_flag(&mut self.groups, group, of_group);
+        set_bit(&mut self.words, number, is_polled);
+        let has_polled = word_of(&self.words, block) != 0;
+        set_bit(&mut self.groups, block, has_polled);
     }
 
-    /// The least number from one on whose flag is raised.
+    /// The least polled number from one on.
     pub fn next(&self, from: u64) -> Option<u64>
         ensures raised { IfSome result (λ n. is_raised self.now n ≡ true) }
         ensures after { IfSome result (λ n. from ≤ n) }
         ensures least { IfSome result (λ n. (q : ℕ) → from ≤ q → q < n → is_raised self.now q ≡ false) }
         ensures none { IfNone result ((q : ℕ) → from ≤ q → is_raised self.now q ≡ false) }
     {
-        let block = from / 64;
-        if let Some(number) = first_raised(&self.numbers, from, block * 64 + 63) {
+        if let Some(number) = first_in_block(&self.words, from) {
             return Some(number);
         }
-        let Some(block) = next_block(&self.blocks, &self.groups, block + 1) else {
+        let Some(block) = next_block(&self.words, &self.groups, from / 64 + 1) else {
             return None;
         };
-        first_raised(&self.numbers, block * 64, block * 64 + 63)
+        first_in_block(&self.words, block * 64)
     }
 }

@@ -1,8 +1,11 @@
 //! A read that a scheduler keeps, and what happens to it.
 ghost use Rattle.std.specs.Prelude.{◌≡◌};
 ghost use Rattle.vx_sched.specs.Entries.{after, waits_in, polled_in, state_of};
+ghost use Rattle.vx_sched.specs.declared.read.Stage.TheVariants as Stage;
 
 use crate::ReadRequest;
+use std::marker::Model;
+use vx_base::Alignment;
 
 /// Where a read stands.
 #[derive(Clone, Copy, Debug, PartialEq, Eq)]
@@ -27,10 +30,128 @@ pub enum Stage {
     Resolved,
 }
 
-#[derive(Clone, Copy, Debug, PartialEq, Eq)]
+/// The stage of a read in flight in a span of so many reads.
+fn in_flight(span: u64, size: usize, dropped: bool) -> Stage
+    ensures { result ≡ Stage.InFlight span size dropped }
+{
+    Stage::InFlight {
+        span,
+        size,
+        dropped,
+    }
+}
+
+/// How a read stands, without the span that it may be in.
+#[derive(Clone, Copy)]
+pub enum Standing {
+    Registered,
+    Polled,
+    Flies,
+    FliesDropped,
+    Resolved,
+}
+
+/// A read and its stage, in few bytes, those first that gathering looks at.
+#[derive(Clone, Copy)]
 pub struct Read {
-    pub request: ReadRequest,
-    pub stage: Stage,
+    standing: Standing,
+    alignment: Alignment,
+    offset: u64,
+    length: usize,
+    id: u64,
+    span: u64,
+    size: usize,
+}
+
+impl Model for Read {
+    ghost use Rattle.vx_sched.specs.Stored as stored;
+
+    ghost Value = { stored.Read };
+
+    ghost view = { λ r. record {
+      request = record { id = r.id; offset = r.offset; length = r.length; alignment = r.alignment };
+      stage = stored.stage_of r.standing r.span r.size;
+    } };
+
+    ghost invariant = { λ r. stored.IsTidy r.standing r.span r.size };
+
+    ghost inverse = { λ r. record {
+      standing = stored.standing_of r.stage;
+      alignment = r.request.alignment;
+      offset = r.request.offset;
+      length = r.request.length;
+      id = r.request.id;
+      span = stored.span_in r.stage;
+      size = stored.size_in r.stage;
+    } };
+
+    ghost inverse_ok = { λ r tidy. λ i. record {
+      standing = stored.standing_back r.standing r.span r.size i;
+      alignment = r.alignment;
+      offset = r.offset;
+      length = r.length;
+      id = r.id;
+      span = stored.span_back r.standing r.span r.size tidy i;
+      size = stored.size_back r.standing r.span r.size tidy i;
+    } };
+}
+
+impl Read {
+    /// A read in a stage.
+    pub fn new(request: ReadRequest, stage: Stage) -> Read
+        ensures { result ≡ record { request = request; stage = stage } }
+    {
+        let (standing, span, size) = match stage {
+            Stage::Registered => (Standing::Registered, 0, 0),
+            Stage::Polled => (Standing::Polled, 0, 0),
+            Stage::InFlight {
+                span,
+                size,
+                dropped,
+            } => {
+                if dropped {
+                    (Standing::FliesDropped, span, size)
+                } else {
+                    (Standing::Flies, span, size)
+                }
+            }
+            Stage::Resolved => (Standing::Resolved, 0, 0),
+        };
+        Read {
+            standing,
+            alignment: request.alignment,
+            offset: request.offset,
+            length: request.length,
+            id: request.id,
+            span,
+            size,
+        }
+    }
+
+    /// What was asked.
+    pub fn request(&self) -> ReadRequest
+        ensures { result ≡ self.now.request }
+    {
+        ReadRequest {
+            id: self.id,
+            offset: self.offset,
+            length: self.length,
+            alignment: self.alignment,
+        }
+    }
+
+    /// The stage that it is in.
+    pub fn stage(&self) -> Stage
+        ensures { result ≡ self.now.stage }
+    {
+        match self.standing {
+            Standing::Registered => Stage::Registered,
+            Standing::Polled => Stage::Polled,
+            Standing::Flies => in_flight(self.span, self.size, false),
+            Standing::FliesDropped => in_flight(self.span, self.size, true),
+            Standing::Resolved => Stage::Resolved,
+        }
+    }
 }
 
 /// What happens to a read.

@@ -85,7 +85,7 @@ impl State {
             longest: raise(max_read_size, alignment),
             aligned: alignment,
             most: concurrency,
-            table: Table::new(alloc),
+            table: Table::new(alloc, distance.is_some()),
             last: None,
         }
     }
@@ -190,7 +190,7 @@ impl State {
             };
             let next = first.id;
             let span = self.gather_from(alloc, &before, first)?;
-            add_numbers(&mut before, span.requests())?;
+            add_numbers(alloc, &mut before, span.requests())?;
             spans.push(span)?;
             from = next;
         }

@@ -1,24 +1,27 @@
 //! The reads of a scheduler, by number, and the places of those that wait.
-ghost use Rattle.std.specs.Prelude.{◌≡◌, ℕ, ◌==◌, ◌<◌, ◌≤◌, ◌++◌, ◌∷◌, map, length, IfOk, ◌^◌, [], None, Some, cond, true, false, ◌&&◌, not, IsSome, IfSome, IfNone, OnOk, OnErr, option_map};
+ghost use Rattle.std.specs.Prelude.{◌≡◌, ℕ, Bool, ◌==◌, ◌<◌, ◌≤◌, ◌++◌, ◌∷◌, map, length, IfOk, ◌^◌, [], None, Some, cond, true, false, ◌&&◌, not, IsSome, IfSome, IfNone, OnOk, OnErr, option_map};
 ghost use Rattle.std.specs.BTreeMap.{insert_entry, is_at};
+ghost use Rattle.std.specs.Map.{keys_of};
 ghost use Rattle.std.specs.BTreeSet.{contains, keys_between};
 ghost use Rattle.std.specs.List.{list_any, AllByRecursion};
 ghost use Rattle.std.specs.declared.ops.Bound.TheVariants.{Included};
 ghost use Rattle.vx_sched.specs.declared.request.ReadRequest.{ReadRequest};
-ghost use Rattle.vx_sched.specs.declared.read.Read.{Read};
+ghost use Rattle.vx_sched.specs.Stored.{Read};
 ghost use Rattle.std.specs.Ordering.{nat_cmp};
 ghost use Rattle.vx_sched.specs.Span.{end_of};
-ghost use Rattle.vx_sched.specs.Entries.{Entries, entry_at, if_waits, state_of, changed, all_changed, with_stage, waits_in, polled_in};
+ghost use Rattle.vx_sched.specs.Entries.{Entries, entry_at, waiting_among, if_waits, state_of, changed, all_changed, with_stage, waits_in, polled_in};
 ghost use Rattle.vx_sched.specs.Reads.{read_at, waiting_at, polled_at, state_at, leads_at, change, register_read, poll_read, drop_read, take_read, resolve_read};
 ghost use Rattle.vx_sched.specs.Merging.{is_listed, is_in_order, first_number};
-ghost use Rattle.vx_sched.specs.Places.{AllFit, IsKept, place_cmp, stays_waiting};
+ghost use Rattle.vx_sched.specs.Kept.{Has, IsKept};
+ghost use Rattle.vx_sched.specs.Places.{AllFit, place_cmp, stays_waiting};
 ghost use Rattle.vx_sched.specs.Counting.{counts_of};
-ghost use Rattle.vx_sched.specs.Polls.{flag_at, is_raised, AreMarked};
+ghost use Rattle.vx_sched.specs.Polls.{has_room, is_raised, stays_polled, AreMarked};
 
 use crate::ReadRequest;
 use crate::counts::{Counts, Kind, count_kind};
 use crate::flying::{all_fly, is_ordered};
 use crate::numbered::Numbered;
+use crate::places::Places;
 use crate::polls::Polls;
 use crate::read::{Change, Read, ReadState, Stage, stage_after};
 use std::alloc::{AllocError, Global};
@@ -29,7 +32,7 @@ use std::marker::Model;
 #[derive(Drop)]
 pub struct Table {
     reads: Numbered<Read>,
-    places: BTreeSet<(u64, u64)>,
+    places: Places,
     polls: Polls,
     /// No read is longer than this.
     longest: u64,
@@ -38,7 +41,7 @@ pub struct Table {
 impl Model for Table {
     ghost use Rattle.vx_sched.specs.Reads.{Reads};
     ghost use Rattle.vx_sched.specs.Entries.{seen};
-    ghost use Rattle.vx_sched.specs.Places.{IsTable};
+    ghost use Rattle.vx_sched.specs.Kept.{IsTable};
 
     ghost Value = { Reads };
 
@@ -50,7 +53,7 @@ impl Model for Table {
 /// Adds a read and its place, or neither.
 fn add(
     reads: &mut Numbered<Read>,
-    places: &mut BTreeSet<(u64, u64)>,
+    places: &mut Places,
     request: ReadRequest,
 ) -> Result<(), AllocError>
     ensures entries { OnOk result (reads.new ≡ insert_entry nat_cmp reads.old request.id
@@ -58,23 +61,20 @@ fn add(
     ensures lookups { OnOk result ((q : ℕ) → entry_at reads.new q
         ≡ cond (is_at (nat_cmp request.id) q) (Some (record { request = request; stage = Stage.Registered }))
         (entry_at reads.old q)) }
-    ensures places { OnOk result ((k : ℕ × ℕ) → contains place_cmp places.new k
-        ≡ cond (is_at (place_cmp (request.offset, request.id)) k) true (contains place_cmp places.old k)) }
+    ensures places { OnOk result ((k : ℕ × ℕ) (b : Bool) → Has places.old k b →
+        Has places.new k (cond (is_at (place_cmp (request.offset, request.id)) k) true b)) }
     ensures kept { OnErr result (reads.new ≡ reads.old) }
-    ensures kept_places { contains place_cmp places.old (request.offset, request.id) ≡ false → OnErr result
-        ((k : ℕ × ℕ) → contains place_cmp places.new k ≡ contains place_cmp places.old k) }
+    ensures kept_places { Has places.old (request.offset, request.id) false → OnErr result
+        ((k : ℕ × ℕ) (b : Bool) → Has places.old k b → Has places.new k b) }
 {
     let id = request.id;
     let place = (request.offset, id);
     places.insert(place)?;
-    let read = Read {
-        request,
-        stage: Stage::Registered,
-    };
+    let read = Read::new(request, Stage::Registered);
     match reads.put(id, read) {
         Ok(()) => Ok(()),
         Err(_) => {
-            places.remove(&place);
+            places.remove(place);
             Err(AllocError)
         }
     }
@@ -88,7 +88,7 @@ fn put(reads: &mut Numbered<Read>, id: u64, request: ReadRequest, stage: Option<
         (option_map (λ s. record { request = request; stage = s }) stage) (entry_at reads.old q) }
 {
     match stage {
-        Some(stage) => match reads.put(id, Read { request, stage }) {
+        Some(stage) => match reads.put(id, Read::new(request, stage)) {
             Ok(()) => {}
             Err(_) => unreachable!(),
         },
@@ -97,36 +97,18 @@ fn put(reads: &mut Numbered<Read>, id: u64, request: ReadRequest, stage: Option<
 }
 
 /// Takes the place of a read out, where it waits no longer.
-fn leave(places: &mut BTreeSet<(u64, u64)>, read: &Read, stage: Option<Stage>)
-    ensures { (k : ℕ × ℕ) → contains place_cmp places.new k ≡ cond
-        (waits_in read.now.stage && not (stays_waiting stage) && is_at (place_cmp (read.now.request.offset, read.now.request.id)) k)
-        false (contains place_cmp places.old k) }
+fn leave(places: &mut Places, read: &Read, stage: Option<Stage>)
+    ensures { (k : ℕ × ℕ) (b : Bool) → Has places.old k b → Has places.new k (cond
+        (waits_in read.now.stage && not (stays_waiting stage) && is_at (place_cmp (read.now.request.offset, read.now.request.id)) k) false b) }
 {
     let stays = match stage {
         Some(stage) => stage.is_waiting(),
         None => false,
     };
-    if read.stage.is_waiting() && !stays {
-        places.remove(&(read.request.offset, read.request.id));
+    if read.stage().is_waiting() && !stays {
+        let request = read.request();
+        places.remove((request.offset, request.id));
     }
-}
-
-/// The numbers at the places whose offsets lie in bounds, in order.
-fn numbers_between(
-    alloc: Global,
-    places: &BTreeSet<(u64, u64)>,
-    left: u64,
-    right: u64,
-) -> Result<Vec<u64>, AllocError>
-    requires { left ≤ right }
-    ensures { IfOk result (λ ids. ids.items ≡ map (λ (k : ℕ × ℕ). k.1)
-        (keys_between place_cmp (Included (left, 0)) (Included (right, u64.MAX)) places.now)) }
-{
-    let mut ids = Vec::new(alloc);
-    for place in places.range((left, 0)..=(right, u64::MAX)) {
-        ids.push(place.1)?;
-    }
-    Ok(ids)
 }
 
 /// The raised number from one on that is least and not among some.
@@ -153,21 +135,20 @@ fn next_of(polls: &Polls, from: u64, taken: &BTreeSet<u64>) -> Option<u64>
     }
 }
 
-/// Puts the flag of a read that changed.
+/// Says of a read that changed whether it is polled.
 fn mark(polls: &mut Polls, id: u64, before: &Stage, after: Option<Stage>)
-    requires { flag_at polls.old id ≡ Some (polled_in before.now) }
-    ensures { (n : ℕ) → flag_at polls.new n
-        ≡ cond (is_at (nat_cmp id) n) (option_map polled_in after) (flag_at polls.old n) }
+    requires raised { is_raised polls.old id ≡ polled_in before.now }
+    requires room { has_room polls.old id ≡ true }
+    ensures raised { (n : ℕ) → is_raised polls.new n ≡ cond (id == n) (stays_polled after) (is_raised polls.old n) }
+    ensures room { (n : ℕ) → has_room polls.old n ≡ true → has_room polls.new n ≡ true }
 {
-    let Some(stage) = after else {
-        polls.put(id, None);
-        return;
+    let is_polled = match after {
+        Some(stage) => stage.is_polled(),
+        None => false,
     };
-    let polled = stage.is_polled();
-    if polled == before.is_polled() {
-        return;
+    if is_polled != before.is_polled() {
+        polls.put(id, is_polled);
     }
-    polls.put(id, Some(polled));
 }
 
 /// The entry of a number.
@@ -183,8 +164,8 @@ fn if_waits(found: Option<Read>) -> Option<ReadRequest>
 {
     match found {
         Some(read) => {
-            if read.stage.is_waiting() {
-                Some(read.request)
+            if read.stage().is_waiting() {
+                Some(read.request())
             } else {
                 None
             }
@@ -193,12 +174,53 @@ fn if_waits(found: Option<Read>) -> Option<ReadRequest>
     }
 }
 
+/// Those of the reads of numbers that wait. Nothing else is done as they are looked up, so that the processor
+/// fetches several at once.
+fn waiting_among(
+    alloc: Global,
+    reads: &Numbered<Read>,
+    ids: &[u64],
+) -> Result<Vec<ReadRequest>, AllocError>
+    ensures { IfOk result (λ v. v.items ≡ waiting_among reads.now ids.now) }
+{
+    let mut found = Vec::with_capacity(alloc, ids.len())?;
+    for id in ids {
+        let Some(request) = if_waits(entry(reads, *id)) else {
+            continue;
+        };
+        found.push(request)?;
+    }
+    Ok(found)
+}
+
+/// The numbers of the reads at places whose offsets lie in bounds, in order, or of all reads where no places are
+/// kept. Only memory refuses.
+fn numbers_near(
+    alloc: Global,
+    reads: &Numbered<Read>,
+    places: &Places,
+    left: u64,
+    right: u64,
+) -> Result<Vec<u64>, AllocError>
+    requires { left ≤ right }
+    ensures near { IfOk result (λ ids. places.now.is_kept ≡ true → ids.items ≡ map (λ (k : ℕ × ℕ). k.1)
+        (keys_between place_cmp (Included (left, 0)) (Included (right, u64.MAX)) places.now.set)) }
+    ensures all { IfOk result (λ ids. places.now.is_kept ≡ false → ids.items ≡ keys_of reads.now) }
+{
+    if places.is_kept {
+        let ids = places.numbers_between(alloc, left, right)?;
+        return Ok(ids);
+    }
+    let ids = reads.numbers(alloc)?;
+    Ok(ids)
+}
+
 /// The state of an entry.
 fn if_state(found: Option<Read>) -> Option<ReadState>
     ensures { result ≡ option_map (λ (x : Read). state_of x.stage) found }
 {
     match found {
-        Some(read) => Some(read.stage.state()),
+        Some(read) => Some(read.stage().state()),
         None => None,
     }
 }
@@ -206,7 +228,7 @@ fn if_state(found: Option<Read>) -> Option<ReadState>
 /// Changes the read of a number, if there is one.
 fn change_entry(
     reads: &mut Numbered<Read>,
-    places: &mut BTreeSet<(u64, u64)>,
+    places: &mut Places,
     polls: &mut Polls,
     id: u64,
     change: Change,
@@ -217,17 +239,18 @@ fn change_entry(
     ensures marked { AreMarked reads.new polls.new }
 {
     if let Some(read) = entry(reads, id) {
-        let stage = stage_after(change, read.stage);
-        put(reads, id, read.request, stage);
+        let before = read.stage();
+        let stage = stage_after(change, before);
+        put(reads, id, read.request(), stage);
         leave(places, &read, stage);
-        mark(polls, id, &read.stage, stage);
+        mark(polls, id, &before, stage);
     }
 }
 
 /// Changes several reads.
 fn change_entries(
     reads: &mut Numbered<Read>,
-    places: &mut BTreeSet<(u64, u64)>,
+    places: &mut Places,
     polls: &mut Polls,
     change: Change,
     span: &[ReadRequest],
@@ -253,12 +276,13 @@ fn number_of(span: &[ReadRequest]) -> u64
 }
 
 impl Table {
-    pub fn new(alloc: Global) -> Table
+    /// A table without reads. What reads lie near a range is found fast only where places are kept.
+    pub fn new(alloc: Global, keeps_places: bool) -> Table
         ensures { result ≡ [] }
     {
         Table {
             reads: Numbered::new(alloc),
-            places: BTreeSet::new(alloc),
+            places: Places::new(alloc, keeps_places),
             polls: Polls::new(alloc),
             longest: 0,
         }
@@ -298,25 +322,27 @@ impl Table {
         }
     }
 
-    /// The numbers of waiting reads, those among them that end at `left` or after and begin from `from` to
-    /// `right`, in order. Since no read is longer than the longest, few others are. Only memory refuses.
-    pub fn places_near(
+    /// Waiting reads, in order of offset and number, all those among them that end at `left` or after and begin
+    /// from `from` to `right`. Since no read is longer than the longest, few others are. Only memory refuses.
+    pub fn reads_near(
         &self,
         alloc: Global,
         left: u64,
         from: u64,
         right: u64,
-    ) -> Result<Vec<u64>, AllocError>
-        ensures complete { IfOk result (λ ids. (id : ℕ) (r : ReadRequest) → waiting_at self.now id ≡ Some r →
-            left ≤ end_of r → from ≤ r.offset → r.offset ≤ right → list_any (λ n. n == id) ids.items ≡ true) }
+    ) -> Result<Vec<ReadRequest>, AllocError>
+        ensures complete { IfOk result (λ reads. (id : ℕ) (r : ReadRequest) → waiting_at self.now id ≡ Some r →
+            left ≤ end_of r → from ≤ r.offset → r.offset ≤ right → is_listed reads.items id ≡ true) }
+        ensures waits { IfOk result (λ reads. AllByRecursion (λ r. waiting_at self.now r.id ≡ Some r) reads.items) }
         ensures fit { AllFit self.now }
     {
         let first = from.max(left.saturating_sub(self.longest));
         if first > right {
             return Ok(Vec::new(alloc));
         }
-        let ids = numbers_between(alloc, &self.places, first, right)?;
-        Ok(ids)
+        let ids = numbers_near(alloc, &self.reads, &self.places, first, right)?;
+        let reads = waiting_among(alloc, &self.reads, &ids)?;
+        Ok(reads)
     }
 
     /// How many reads there are of each kind.
@@ -342,16 +368,9 @@ impl Table {
         let id = request.id;
         let longest = self.longest.max(request.length as u64);
         self.polls.open(id)?;
-        match add(&mut self.reads, &mut self.places, request) {
-            Ok(()) => {
-                self.longest = longest;
-                Ok(())
-            }
-            Err(error) => {
-                self.polls.put(id, None);
-                Err(error)
-            }
-        }
+        add(&mut self.reads, &mut self.places, request)?;
+        self.longest = longest;
+        Ok(())
     }
 
     /// Polls the read of a number, if it is registered.

@@ -24,8 +24,7 @@ use Rattle.vx_source.specs.Fits.{World, NamesRange}
 use Rattle.vx_source.specs.History.{first_of, outcome_after, is_good, is_bad}
 use Rattle.vx_source.specs.Kept.{Kept, update, users_in, users_at, polled_in, polled_at, outcome_at, bytes_of}
 use Rattle.vx_source.specs.Stands.{Words, HasWords, users_of, is_due, waiting}
-use Rattle.vx_source.specs.declared.filing.Filed.{Filed}
-use Rattle.vx_source.specs.declared.request.SharedRead.{SharedRead}
+use Rattle.vx_source.specs.Requests.{Filed, SharedRead}
 use Rattle.vx_source.specs.declared.span.Span.{Span}
 use Rattle.vx_source.specs.declared.span.SpanOutcome.{SpanOutcome}
 use Rattle.vx_source.specs.declared.span.SpanOutcome.TheVariants.{Good, Bad}

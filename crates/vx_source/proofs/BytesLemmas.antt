@@ -28,14 +28,10 @@ use Rattle.vx_source.specs.History.{Moment, is_held}
 use Rattle.vx_source.specs.Kept.{Kept, update, ended, one_less, one_more, marked, unused, begun, with_held, with_joined, with_begun, with_registered, with_found, IsCut, IsLook, tail_start, after_look, joinable_at, without_user, without_held, with_poll, standing_of, standing_in, standing_at, segment_at, bytes_in, bytes_of, reply_good, reply_outcome, reply_read, reply_of_standing, reply_standing, poll_reply, after_good, after_outcome, after_read, after_standing, after_found, after_poll, drop_standing, after_drop}
 use Rattle.vx_source.specs.Stands.{Words, Stands, HasWords, words, waiting, request_of}
 use Rattle.vx_source.specs.Stands.{waits as waits_of}
-use Rattle.vx_source.specs.declared.filing.Filed.{Filed}
+use Rattle.vx_source.specs.Requests.{Filed, Request, SharedRead, Standing, Held, Reads, Ended}
 use Rattle.vx_source.specs.declared.look.Look.{Look}
 use Rattle.vx_source.specs.declared.look.Look.TheVariants.{Missing, InTail, InCache, CacheFailed, Nowhere}
 use Rattle.vx_source.specs.declared.reply.Reply.TheVariants.{Ready}
-use Rattle.vx_source.specs.declared.request.Request.{Request}
-use Rattle.vx_source.specs.declared.request.SharedRead.{SharedRead}
-use Rattle.vx_source.specs.declared.request.Standing.{Standing}
-use Rattle.vx_source.specs.declared.request.Standing.TheVariants.{Held, Reads, Ended}
 use Rattle.vx_source.specs.declared.span.SpanOutcome.{SpanOutcome}
 use Rattle.vx_source.specs.declared.span.SpanOutcome.TheVariants.{Good, Bad}
 use Rattle.vx_source.specs.declared.tail.Tail.{Tail}

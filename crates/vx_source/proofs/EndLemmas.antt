@@ -14,8 +14,7 @@ use Rattle.vx_source.specs.Fits.{World}
 use Rattle.vx_source.specs.History.{is_that, uses, is_good, is_bad}
 use Rattle.vx_source.specs.Kept.{Kept, update, ended, one_less, left_core, without_user, without_held, standing_in, standing_at, segment_at, users_in, users_at, polled_in, outcome_in, bytes_in, bytes_of}
 use Rattle.vx_source.specs.Stands.{Words, HasWords, Ties, users_of, waits, is_due, waiting, request_of}
-use Rattle.vx_source.specs.declared.request.Request.{Request}
-use Rattle.vx_source.specs.declared.request.SharedRead.{SharedRead}
+use Rattle.vx_source.specs.Requests.{Request, SharedRead}
 use Rattle.vx_source.specs.declared.span.SpanOutcome.{SpanOutcome}
 use Rattle.vx_source.proofs.SlotLemmas.{get-update_same, get-update_other, length-update}
 use Rattle.vx_source.proofs.TallyLemmas.{count-same, count-more}

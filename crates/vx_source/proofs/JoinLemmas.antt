@@ -12,7 +12,7 @@ use Rattle.vx_source.specs.Fits.{World}
 use Rattle.vx_source.specs.History.{Moment, is_live, is_that, read_of, segment_of, outcome_of, is_bad, joins, if_open, joinable, users, uses}
 use Rattle.vx_source.specs.Kept.{Kept}
 use Rattle.vx_source.specs.Stands.{Stands, words}
-use Rattle.vx_source.specs.declared.request.Request.{Request}
+use Rattle.vx_source.specs.Requests.{Request}
 use Rattle.vx_source.proofs.SlotLemmas.{get-within}
 use Rattle.vx_source.proofs.TallyLemmas.{count-found}
 use Rattle.vx_source.proofs.WordLemmas.{live-used}

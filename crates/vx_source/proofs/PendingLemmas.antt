@@ -15,7 +15,7 @@ use Rattle.vx_source.specs.Fits.{World}
 use Rattle.vx_source.specs.History.{is_that}
 use Rattle.vx_source.specs.Kept.{Kept, update, marked, with_poll, standing_at, users_in, polled_in, polled_at, outcome_in, bytes_in}
 use Rattle.vx_source.specs.Stands.{Words, HasWords, users_of, waits, is_due, request_of}
-use Rattle.vx_source.specs.declared.request.SharedRead.{SharedRead}
+use Rattle.vx_source.specs.Requests.{SharedRead}
 use Rattle.vx_source.proofs.SlotLemmas.{get-update_same, get-update_other, length-update}
 use Rattle.vx_source.proofs.WordLemmas.{eq-self, replay-append, legal-append, live-of, used-of, request-some}
 

@@ -18,8 +18,7 @@ use Rattle.vx_source.specs.Blocks.{number_of, span_outcome, reports_of, cut_of, 
 use Rattle.vx_source.specs.History.{Moment, segment_of}
 use Rattle.vx_source.specs.Kept.{segment_at}
 use Rattle.vx_source.specs.Puts.{Gains, PutsBy, IsPut, put_at, puts_of, kept_of, missed, with_segment, segments_of, put_segments, put_by}
-use Rattle.vx_source.specs.declared.filing.Filed.{Filed}
-use Rattle.vx_source.specs.declared.request.Request.{Request}
+use Rattle.vx_source.specs.Requests.{Filed, Request}
 use Rattle.vx_source.specs.declared.span.Span.{Span}
 use Rattle.vx_source.specs.declared.span.SpanOutcome.{SpanOutcome}
 use Rattle.vx_source.specs.declared.span.SpanOutcome.TheVariants.{Bad}

@@ -16,10 +16,7 @@ use Rattle.vx_source.specs.Fits.{World, read_request}
 use Rattle.vx_source.specs.History.{is_that, uses, is_good, is_bad}
 use Rattle.vx_source.specs.Kept.{Kept, update, unused, begun, one_more, with_held, with_joined, with_begun, standing_of, standing_in, standing_at, segment_at, users_in, users_at, polled_in, outcome_in, bytes_in, flatten, latest_at}
 use Rattle.vx_source.specs.Stands.{Words, HasWords, Ties, AreKnown, standing, users_of, waits, is_due, waiting, request_of}
-use Rattle.vx_source.specs.declared.request.Request.{Request}
-use Rattle.vx_source.specs.declared.request.SharedRead.{SharedRead}
-use Rattle.vx_source.specs.declared.request.Standing.{Standing}
-use Rattle.vx_source.specs.declared.request.Standing.TheVariants.{Held, Reads}
+use Rattle.vx_source.specs.Requests.{Request, SharedRead, Standing, Held, Reads}
 use Rattle.vx_source.proofs.SlotLemmas.{get-push_last, get-push_other, get-past, get-some, get-within, get-update_same, get-update_other, length-update}
 use Rattle.vx_source.proofs.TallyLemmas.{count-same, count-most, count-next}
 use Rattle.vx_source.proofs.WordLemmas.{eq-self, replay-append, legal-append, live-used}

@@ -6,10 +6,7 @@ use Rattle.vx_base.specs.declared.segment.SegmentSpec.{SegmentSpec}
 use Rattle.vx_source.specs.Kept.{Kept, ended, without_held, without_user, with_poll, after_good, after_outcome, after_read, after_standing, after_found, after_poll, standing_at, drop_standing, after_drop, joinable_at, with_registered, with_found, after_look}
 use Rattle.vx_source.specs.declared.look.Look.{Look}
 use Rattle.vx_source.specs.declared.look.Look.TheVariants.{Missing, InTail, InCache, CacheFailed, Nowhere}
-use Rattle.vx_source.specs.declared.request.Request.{Request}
-use Rattle.vx_source.specs.declared.request.SharedRead.{SharedRead}
-use Rattle.vx_source.specs.declared.request.Standing.{Standing}
-use Rattle.vx_source.specs.declared.request.Standing.TheVariants.{Held, Reads, Ended}
+use Rattle.vx_source.specs.Requests.{Request, SharedRead, Standing, Held, Reads, Ended}
 use Rattle.vx_source.specs.declared.span.SpanOutcome.{SpanOutcome}
 use Rattle.vx_source.specs.declared.span.SpanOutcome.TheVariants.{Good, Bad}
 use Rattle.vx_source.proofs.SlotLemmas.{length-update}

@@ -22,8 +22,7 @@ use Rattle.vx_source.specs.Fits.{World, NamesRange, with_request}
 use Rattle.vx_source.specs.History.{is_among, first_of, outcome_by, is_good}
 use Rattle.vx_source.specs.Kept.{update, users_in, users_at, polled_in, outcome_in, outcome_at, bytes_in, bytes_of}
 use Rattle.vx_source.specs.Stands.{Words, users_of, waits, is_due, waiting, request_of}
-use Rattle.vx_source.specs.declared.filing.Filed.{Filed}
-use Rattle.vx_source.specs.declared.request.SharedRead.{SharedRead}
+use Rattle.vx_source.specs.Requests.{Filed, SharedRead}
 use Rattle.vx_source.specs.declared.span.Span.{Span}
 use Rattle.vx_source.specs.declared.span.SpanOutcome.{SpanOutcome}
 use Rattle.vx_source.proofs.SlotLemmas.{get-update_same, get-update_other}

@@ -17,10 +17,7 @@ use Rattle.vx_source.specs.declared.look.Look.{Look}
 use Rattle.vx_source.specs.declared.look.Look.TheVariants.{Missing, InTail, InCache, CacheFailed, Nowhere}
 use Rattle.vx_source.specs.declared.reply.FailCause.TheVariants as cause
 use Rattle.vx_source.specs.declared.reply.Reply.TheVariants.{Registered, Ready, Pending, Failed, Dropped}
-use Rattle.vx_source.specs.declared.request.Request.{Request}
-use Rattle.vx_source.specs.declared.request.SharedRead.{SharedRead}
-use Rattle.vx_source.specs.declared.request.Standing.{Standing}
-use Rattle.vx_source.specs.declared.request.Standing.TheVariants.{Held, Reads, Ended}
+use Rattle.vx_source.specs.Requests.{Request, SharedRead, Standing, Held, Reads, Ended}
 use Rattle.vx_source.specs.declared.span.SpanOutcome.{SpanOutcome}
 use Rattle.vx_source.specs.declared.span.SpanOutcome.TheVariants.{Good, Bad}
 use Rattle.vx_source.proofs.WordLemmas.{live-of, used-of, read-found, not-live}

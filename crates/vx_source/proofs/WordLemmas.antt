@@ -9,8 +9,7 @@ use Rattle.vx_source.specs.Fits.{World, read_request}
 use Rattle.vx_source.specs.History.{is_that}
 use Rattle.vx_source.specs.Kept.{Kept, standing_in, standing_at, users_in}
 use Rattle.vx_source.specs.Stands.{Words, HasWords, users_of, request_of}
-use Rattle.vx_source.specs.declared.request.Request.{Request}
-use Rattle.vx_source.specs.declared.request.SharedRead.{SharedRead}
+use Rattle.vx_source.specs.Requests.{Request, SharedRead}
 use Rattle.vx_source.proofs.SlotLemmas.{get-some, get-past, get-within}
 use Rattle.vx_source.proofs.TallyLemmas.{count-some}
 

@@ -11,9 +11,7 @@ use Rattle.vx_source.specs.declared.look.Look.{Look}
 use Rattle.vx_source.specs.declared.look.Look.TheVariants.{InCache}
 use Rattle.vx_source.specs.declared.reply.Reply.{Reply}
 use Rattle.vx_source.specs.declared.reply.Reply.TheVariants.{Ready}
-use Rattle.vx_source.specs.declared.request.Request.{Request}
-use Rattle.vx_source.specs.declared.request.Standing.{Standing}
-use Rattle.vx_source.specs.declared.request.Standing.TheVariants.{Held, Reads, Ended}
+use Rattle.vx_source.specs.Requests.{Request, Standing, Held, Reads, Ended}
 use Rattle.vx_source.specs.declared.tail.Tail.{Tail}
 
 -- a buffer has the bytes of a segment

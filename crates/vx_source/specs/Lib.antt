@@ -10,5 +10,6 @@ pub mod History
 pub mod Keeping
 pub mod Kept
 pub mod Puts
+pub mod Requests
 pub mod Sources
 pub mod Stands

@@ -7,8 +7,7 @@ use Rattle.vx_base.specs.Counts.{Rises}
 use Rattle.vx_base.specs.declared.segment.SegmentId.{SegmentId}
 use Rattle.vx_source.specs.History.{Moment, segment_of}
 use Rattle.vx_source.specs.Kept.{segment_at}
-use Rattle.vx_source.specs.declared.filing.Filed.{Filed}
-use Rattle.vx_source.specs.declared.request.Request.{Request}
+use Rattle.vx_source.specs.Requests.{Filed, Request}
 use Rattle.vx_source.specs.declared.span.Span.{Span}
 use Rattle.vx_source.specs.declared.span.SpanOutcome.{SpanOutcome}
 use Rattle.vx_source.specs.declared.span.SpanOutcome.TheVariants.{Good, Bad}

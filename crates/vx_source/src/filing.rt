@@ -8,19 +8,11 @@ ghost use Rattle.vx_source.specs.Blocks.{number_of, reported, span_outcome, repo
 ghost use Rattle.vx_source.specs.Kept.{update};
 ghost use Rattle.vx_source.specs.declared.span.SpanOutcome.TheVariants.{Bad};
 
-use crate::request::SharedRead;
+use crate::request::{Filed, SharedRead};
 use crate::{Span, SpanOutcome};
 use std::alloc::{AllocError, Global};
 use vx_base::{ByteBuffer, ReadAtRequest, Reader, Sequence};
 use vx_sched::{CoalescedRequest, Fault, Outcome, ReadRequest, RequestMetrics, ask, request_of};
-
-/// What a span gives one of its reads: how the span was read, and the read's bytes.
-#[derive(Drop)]
-pub struct Filed {
-    pub read: u64,
-    pub outcome: SpanOutcome,
-    pub bytes: Option<ByteBuffer>,
-}
 
 /// What asking a block of spans gave.
 #[derive(Drop)]
@@ -33,7 +25,7 @@ pub struct Block {
 fn numbers(alloc: Global, requests: &[ReadRequest]) -> Result<Sequence<u64>, AllocError>
     ensures { IfOk result (λ numbers. numbers ≡ map number_of requests.now) }
 {
-    let mut numbers = Sequence::new(alloc);
+    let mut numbers = Sequence::from_vec(Vec::with_capacity(alloc, requests.len())?);
     for request in requests {
         numbers.push(request.id)?;
     }
@@ -66,11 +58,7 @@ fn file_good(
 {
     for index in 0..span.requests().len() {
         let bytes = span.slice_of(alloc, buffer, index)?;
-        filed.push(Filed {
-            read: span.requests()[index].id,
-            outcome: SpanOutcome::Good,
-            bytes: Some(bytes),
-        })?;
+        filed.push(Filed::good(span.requests()[index].id, bytes))?;
     }
     Ok(())
 }
@@ -84,11 +72,7 @@ fn file_bad(
     ensures { OnOk result (filed.new.items ≡ filed.old.items ++ map (filed_bad (Bad fault)) requests.now) }
 {
     for request in requests {
-        filed.push(Filed {
-            read: request.id,
-            outcome: SpanOutcome::Bad(fault),
-            bytes: None,
-        })?;
+        filed.push(Filed::bad(request.id, fault))?;
     }
     Ok(())
 }
@@ -131,8 +115,8 @@ fn block_of(
     ensures filed { IfOk result (λ block. block.filed.items ≡ filed_of spans.now outcomes.items) }
 {
     let mut block = Block {
-        reports: Vec::new(alloc),
-        filed: Vec::new(alloc),
+        reports: Vec::with_capacity(alloc, spans.len())?,
+        filed: Vec::with_capacity(alloc, spans.len())?,
     };
     let mut left = outcomes.into_iter();
     for span in spans {
@@ -148,7 +132,7 @@ fn block_of(
 fn ranges(alloc: Global, spans: &[CoalescedRequest]) -> Result<Vec<ReadAtRequest>, AllocError>
     ensures { IfOk result (λ ranges. ranges.items ≡ map request_of spans.now) }
 {
-    let mut ranges = Vec::new(alloc);
+    let mut ranges = Vec::with_capacity(alloc, spans.len())?;
     for span in spans {
         ranges.push(request_of(span))?;
     }
@@ -177,21 +161,11 @@ fn file_one(reads: &mut Vec<SharedRead>, filed: Filed)
     ensures items { reads.new.items ≡ update (with_filed filed) reads.old.items filed.read }
     ensures len { length reads.new.items ≡ length reads.old.items }
 {
-    let Filed {
-        read,
-        outcome,
-        bytes,
-    } = filed;
-    let r = read as usize;
+    let r = filed.read() as usize;
     if r >= reads.len() {
         return;
     }
-    let shared = &mut reads[r];
-    if shared.outcome.is_some() {
-        return;
-    }
-    shared.outcome = Some(outcome);
-    shared.bytes = bytes;
+    reads[r].file(filed);
 }
 
 /// Files what a block gave.

@@ -4,8 +4,7 @@ ghost use Rattle.vx_base.specs.Caches.{SameCache};
 ghost use Rattle.vx_source.specs.Kept.{segment_at};
 ghost use Rattle.vx_source.specs.Puts.{Gains, put_at, puts_of};
 
-use crate::filing::Filed;
-use crate::request::Request;
+use crate::request::{Filed, Request};
 use std::alloc::{AllocError, Global};
 use vx_base::{ByteBuffer, SegmentCache, SegmentId};
 
@@ -16,7 +15,7 @@ fn segment_of(requests: &[Request], n: usize) -> Option<u32>
     let Some(request) = requests.get(n) else {
         return None;
     };
-    Some(request.segment)
+    Some(request.segment())
 }
 
 /// Adds the buffer for the cache of what a read was given, if that is good. Only memory refuses.
@@ -28,13 +27,12 @@ fn add_put(
 ) -> Result<(), AllocError>
     ensures { OnOk result (puts.new.items ≡ puts.old.items ++ put_at (segment_at requests.now one.now.read) one.now.bytes) }
 {
-    let Some(segment) = segment_of(requests, one.read as usize) else {
+    let Some(segment) = segment_of(requests, one.read() as usize) else {
         return Ok(());
     };
-    let Some(bytes) = &one.bytes else {
+    let Some(shared) = one.share_bytes(alloc)? else {
         return Ok(());
     };
-    let shared = bytes.share(alloc)?;
     puts.push((SegmentId(segment), shared))?;
     Ok(())
 }

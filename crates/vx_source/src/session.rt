@@ -22,10 +22,10 @@ ghost use Rattle.vx_source.specs.History.{Moment, made, polls, drops, drives};
 ghost use Rattle.vx_source.specs.Stands.{Stands, IsNext, Registers, AreFit, EndsWithin, world, greatest_alignment};
 ghost use Rattle.vx_source.specs.Kept.{IsBlank, LiesIn, IsCut, IsLook, is_asked, got_of, tail_start, joinable_at, with_held, with_joined, with_begun, with_found, look_reply, after_look, without_user, without_held, with_poll, poll_reply, after_poll, reply_read, after_read, reply_good, after_good, drop_reply, after_drop, left_core};
 
-use crate::filing::{Block, Filed, ask_block, count_block, file_all};
+use crate::filing::{Block, ask_block, count_block, file_all};
 use crate::look::Look;
 use crate::putting::{put_all, puts_of};
-use crate::request::{Request, SharedRead, Standing};
+use crate::request::{Filed, Newest, Place, Request, SharedRead};
 use crate::slots::{add_user, end_request, mark_polled, put_newest, remove_user};
 use crate::telling::{tell_begin, tell_drop, tell_poll};
 use crate::{FailCause, Reply, Span, SpanOutcome, Tail};
@@ -46,7 +46,7 @@ pub struct Session {
     core: State,
     requests: Vec<Request>,
     reads: Vec<SharedRead>,
-    newest: Vec<Option<u64>>,
+    newest: Vec<Newest>,
     counts: RequestMetrics,
 }
 
@@ -88,36 +88,24 @@ fn greatest_alignment(segments: &[SegmentSpec]) -> Alignment
 }
 
 /// No newest read of each of so many segments. Only memory refuses.
-fn nothing_read(alloc: Global, count: usize) -> Result<Vec<Option<u64>>, AllocError>
+fn nothing_read(alloc: Global, count: usize) -> Result<Vec<Newest>, AllocError>
     ensures len { IfOk result (λ v. length v.items ≡ count) }
     ensures blank { IfOk result (λ v. IsBlank v.items) }
 {
     let mut newest = Vec::with_capacity(alloc, count)?;
     for _s in 0..count {
-        newest.push(None)?;
+        newest.push(Newest::none())?;
     }
     Ok(newest)
 }
 
 /// No segment has a newest read any more.
-fn forget_reads(newest: &mut Vec<Option<u64>>)
+fn forget_reads(newest: &mut Vec<Newest>)
     ensures len { length newest.new.items ≡ length newest.old.items }
     ensures blank { IsBlank newest.new.items }
 {
     for s in 0..newest.len() {
-        newest[s] = None;
-    }
-}
-
-/// A read with so many requests.
-fn new_read(users: u64) -> SharedRead
-    ensures { result ≡ record { users = users; polled = false; outcome = None; bytes = None } }
-{
-    SharedRead {
-        users,
-        polled: false,
-        outcome: None,
-        bytes: None,
+        newest[s] = Newest::none();
     }
 }
 
@@ -131,7 +119,7 @@ fn leave_core(core: &mut State, reads: &[SharedRead], r: u64)
     let Some(read) = reads.get(r as usize) else {
         return;
     };
-    if read.users <= 1 {
+    if read.users() <= 1 {
         tell_drop(core, r);
     }
 }
@@ -265,33 +253,36 @@ impl Session {
     fn joinable(&self, s: usize) -> Option<u64>
         ensures { result ≡ joinable_at self.now s }
     {
-        let Some(Some(r)) = self.newest.get(s) else {
+        let Some(newest) = self.newest.get(s) else {
             return None;
         };
-        let Some(read) = self.reads.get(*r as usize) else {
+        let Some(r) = newest.read() else {
             return None;
         };
-        if read.users == 0 {
+        let Some(read) = self.reads.get(r as usize) else {
+            return None;
+        };
+        if read.users() == 0 {
             return None;
         }
-        match read.outcome {
+        match read.outcome() {
             Some(SpanOutcome::Bad(_)) => None,
-            _ => Some(*r),
+            _ => Some(r),
         }
     }
 
     /// A request whose bytes are at hand. Only memory refuses.
-    fn hold(&mut self, segment: u32, buffer: ByteBuffer) -> Result<u64, AllocError>
+    fn hold(&mut self, alloc: Global, segment: u32, buffer: ByteBuffer) -> Result<u64, AllocError>
         ensures number { IfOk result (λ n. n ≡ length self.old.requests) }
         ensures after { OnOk result (self.new ≡ with_held self.old segment buffer) }
         ensures err { OnErr result (self.new ≡ self.old) }
     {
         let number = self.requests.len() as u64;
+        let request = Request::held(alloc, segment, buffer)?;
         self.requests.reserve(1)?;
         self.reads.reserve(1)?;
-        let standing = Standing::Held(buffer);
-        self.requests.push_reserved(Request { segment, standing });
-        self.reads.push_reserved(new_read(0));
+        self.requests.push_reserved(request);
+        self.reads.push_reserved(SharedRead::new(0));
         Ok(number)
     }
 
@@ -304,10 +295,9 @@ impl Session {
         let number = self.requests.len() as u64;
         self.requests.reserve(1)?;
         self.reads.reserve(1)?;
-        let standing = Standing::Reads(r);
-        self.requests.push_reserved(Request { segment, standing });
+        self.requests.push_reserved(Request::sharing(segment, r));
         add_user(&mut self.reads, r as usize);
-        self.reads.push_reserved(new_read(0));
+        self.reads.push_reserved(SharedRead::new(0));
         Ok(number)
     }
 
@@ -331,9 +321,9 @@ impl Session {
                 alignment: spec.alignment,
             },
         )?;
-        let standing = Standing::Reads(number);
-        self.requests.push_reserved(Request { segment, standing });
-        self.reads.push_reserved(new_read(1));
+        self.requests
+            .push_reserved(Request::sharing(segment, number));
+        self.reads.push_reserved(SharedRead::new(1));
         put_newest(&mut self.newest, segment as usize, number);
         Ok(number)
     }
@@ -362,7 +352,7 @@ impl Session {
     }
 
     /// Answers a register that found this.
-    fn answer(&mut self, segment: u32, look: Look) -> Result<Reply, AllocError>
+    fn answer(&mut self, alloc: Global, segment: u32, look: Look) -> Result<Reply, AllocError>
         requires { IsLook self.old segment look }
         ensures reply { IfOk result (λ reply. reply ≡ look_reply self.old look) }
         ensures after { OnOk result (self.new ≡ after_look self.old segment look) }
@@ -371,7 +361,7 @@ impl Session {
         match look {
             Look::Missing => Ok(Reply::MissingSegment),
             Look::InTail(buffer) | Look::InCache(buffer) => {
-                let number = self.hold(segment, buffer)?;
+                let number = self.hold(alloc, segment, buffer)?;
                 Ok(Reply::Registered { number, held: true })
             }
             Look::CacheFailed => Ok(Reply::Failed(FailCause::Cache)),
@@ -421,10 +411,9 @@ impl Session {
         let Some(read) = self.reads.get(r as usize) else {
             return Ok(Reply::NotLive);
         };
-        let Some(bytes) = &read.bytes else {
+        let Some(buffer) = read.share_bytes(alloc)? else {
             return Ok(Reply::NotLive);
         };
-        let buffer = bytes.share(alloc)?;
         self.leave(n, r);
         Ok(Reply::Ready(buffer))
     }
@@ -438,8 +427,8 @@ impl Session {
         let Some(read) = self.reads.get(r as usize) else {
             return Ok(Reply::NotLive);
         };
-        let polled = read.polled;
-        match read.outcome {
+        let polled = read.is_polled();
+        match read.outcome() {
             None => {
                 self.poll_waiting(r, polled);
                 Ok(Reply::Pending)
@@ -465,18 +454,18 @@ impl Session {
         let Some(request) = self.requests.get(n) else {
             return Ok(Reply::NotLive);
         };
-        match &request.standing {
-            Standing::Held(buffer) => {
+        match request.place() {
+            Place::Held(buffer) => {
                 let buffer = buffer.share(alloc)?;
                 self.leave_held(n);
                 Ok(Reply::Ready(buffer))
             }
-            Standing::Reads(r) => {
+            Place::Reads(r) => {
                 let r = *r;
                 let reply = self.poll_read(alloc, n, r)?;
                 Ok(reply)
             }
-            Standing::Ended => Ok(Reply::NotLive),
+            Place::Ended => Ok(Reply::NotLive),
         }
     }
 
@@ -489,13 +478,13 @@ impl Session {
         let Some(request) = self.requests.get(n) else {
             return Reply::NotLive;
         };
-        match &request.standing {
-            Standing::Held(_) => self.leave_held(n),
-            Standing::Reads(r) => {
+        match request.place() {
+            Place::Held(_) => self.leave_held(n),
+            Place::Reads(r) => {
                 let r = *r;
                 self.leave(n, r);
             }
-            Standing::Ended => return Reply::NotLive,
+            Place::Ended => return Reply::NotLive,
         }
         Reply::Dropped
     }
@@ -520,7 +509,7 @@ impl Session {
         ensures same { SameCache (C.state cache.old) (C.state cache.new) }
     {
         let look = self.look(alloc, cache, id)?;
-        let reply = self.answer(id.0, look)?;
+        let reply = self.answer(alloc, id.0, look)?;
         Ok(reply)
     }
 

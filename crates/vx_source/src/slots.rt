@@ -1,8 +1,8 @@
 //! Changes of one request or one read.
-ghost use Rattle.std.specs.Prelude.{◌≡◌, ◌+◌, ◌-◌, ◌++◌, ◌∷◌, [], Some, vec_len, vec_capacity};
+ghost use Rattle.std.specs.Prelude.{◌≡◌, ◌+◌, ◌-◌, ◌<◌, ◌++◌, ◌∷◌, [], Some, vec_len, vec_capacity};
 ghost use Rattle.vx_source.specs.Kept.{update, ended, one_more, one_less, marked};
 
-use crate::request::{Request, SharedRead, Standing};
+use crate::request::{Newest, Request, SharedRead};
 
 /// Ends a request.
 pub fn end_request(requests: &mut Vec<Request>, n: usize)
@@ -11,8 +11,7 @@ pub fn end_request(requests: &mut Vec<Request>, n: usize)
     if n >= requests.len() {
         return;
     }
-    let request = &mut requests[n];
-    request.standing = Standing::Ended;
+    requests[n].end();
 }
 
 /// A read has one request more.
@@ -24,8 +23,7 @@ pub fn add_user(reads: &mut Vec<SharedRead>, r: usize)
     if r >= reads.len() {
         return;
     }
-    let read = &mut reads[r];
-    read.users = read.users.saturating_add(1);
+    reads[r].add_user();
 }
 
 /// A read has one request less. With the last one its bytes go.
@@ -35,11 +33,7 @@ pub fn remove_user(reads: &mut Vec<SharedRead>, r: usize)
     if r >= reads.len() {
         return;
     }
-    let read = &mut reads[r];
-    if read.users <= 1 {
-        read.bytes = None;
-    }
-    read.users = read.users.saturating_sub(1);
+    reads[r].remove_user();
 }
 
 /// A read was polled.
@@ -49,16 +43,16 @@ pub fn mark_polled(reads: &mut Vec<SharedRead>, r: usize)
     if r >= reads.len() {
         return;
     }
-    let read = &mut reads[r];
-    read.polled = true;
+    reads[r].mark_polled();
 }
 
 /// The newest read of a segment is another one.
-pub fn put_newest(newest: &mut Vec<Option<u64>>, s: usize, r: u64)
+pub fn put_newest(newest: &mut Vec<Newest>, s: usize, r: u64)
+    requires { r < u64.MAX }
     ensures { newest.new.items ≡ update (λ _. Some r) newest.old.items s }
 {
     if s >= newest.len() {
         return;
     }
-    newest[s] = Some(r);
+    newest[s] = Newest::of(r);
 }

@@ -1,7 +1,6 @@
-use Rattle.std.proofs.Common.{◌≡◌, ℕ, ◌<◌, ◌≤◌, Some, length, get_or, sym, arith}
-use Rattle.std.proofs.lemmas.Bool.Decides.{nat_tests}
+use Rattle.std.proofs.Common.{◌<◌, ◌≤◌, length, get_or, arith}
 use Rattle.std.proofs.lemmas.Option.{slice_get-get_or}
-use Rattle.vx_sched.proofs.NumberedLemmas.{gap_before, gap_behind, slot_here}
+use Rattle.vx_sched.proofs.NumberedLemmas.{gap_before}
 use Rattle.vx_sched.proofs.numbered.look.Goals as goal
 
 pub returns-else-slots-at-clause-gap : goal.returns-else-slots-at-clause-gap

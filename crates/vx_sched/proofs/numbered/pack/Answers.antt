@@ -1,4 +1,4 @@
-use Rattle.std.proofs.Common.{◌≡◌, rules}
+use Rattle.std.proofs.Common.{rules}
 use Rattle.std.proofs.lemmas.List.Elements.{filter_from_retain}
 use Rattle.vx_sched.specs.Numbered.{is_full}
 use Rattle.vx_sched.proofs.numbered.pack.Goals as goal

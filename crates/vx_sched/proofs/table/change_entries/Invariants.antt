@@ -1,6 +1,6 @@
 use Rattle.std.proofs.Common.{◌≡◌, ℕ, drop}
 use Rattle.vx_sched.specs.Entries.{all_changed}
-use Rattle.vx_sched.specs.Places.{IsKept}
+use Rattle.vx_sched.specs.Kept.{IsKept}
 use Rattle.vx_sched.specs.Polls.{AreMarked}
 use Rattle.vx_sched.proofs.table.change_entries.Given as goal
 

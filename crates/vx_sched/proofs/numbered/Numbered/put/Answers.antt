@@ -1,8 +1,7 @@
-use Rattle.std.proofs.Common.{◌≡◌, None, subst, sym, ◌∙◌, ap}
+use Rattle.std.proofs.Common.{subst, sym, ◌∙◌, ap}
 use Rattle.std.specs.Map.{lookup}
 use Rattle.std.specs.BTreeMap.{insert_entry, is_at}
 use Rattle.std.specs.Ordering.{nat_cmp}
-use Rattle.std.specs.Result.{OnErr}
 use Rattle.vx_sched.specs.Numbered.{held, RiseFrom, IsSlot, IsGap}
 use Rattle.vx_sched.proofs.NumberedLemmas.{put_there, changed_rises, put_here, put_rises, gap_value, insert_lookup}
 use Rattle.vx_sched.proofs.numbered.Numbered.put.Goals as goal

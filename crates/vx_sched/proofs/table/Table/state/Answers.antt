@@ -1,7 +1,7 @@
 use Rattle.std.proofs.Common.{sym, ◌∙◌, ap, option_map}
 use Rattle.vx_sched.specs.Entries.{state_of}
 use Rattle.vx_sched.proofs.SeenLemmas.{stands-kept, state-seen}
-use Rattle.vx_sched.specs.declared.read.Read.{Read}
+use Rattle.vx_sched.specs.Stored.{Read}
 use Rattle.vx_sched.proofs.table.Table.state.Goals as goal
 
 pub returns : goal.returns

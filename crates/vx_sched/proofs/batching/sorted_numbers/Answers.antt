@@ -1,0 +1,17 @@
+use Rattle.std.proofs.Common.{◌≡◌, ◌==◌, ◌||◌, Bool, true, false, refl, ap, sym, ◌∙◌}
+use Rattle.std.proofs.lemmas.List.Sorted.{list_any-IsPermutation}
+use Rattle.std.specs.List.{list_any}
+use Rattle.vx_sched.proofs.PickLemmas.{none-left}
+use Rattle.vx_sched.proofs.batching.sorted_numbers.Goals as goal
+
+or-false : (b : Bool) → (b || false) ≡ b
+or-false true = refl
+or-false false = refl
+
+pub returns : goal.returns
+returns c q =
+    let numbers = c.loop-read.numbers.items in
+    sym (list_any-IsPermutation (λ n. n == q) numbers c.sort_unstable.new.self.items c.sort_unstable.ensures.permutation)
+    ∙ sym (or-false (list_any (λ n. n == q) numbers))
+    ∙ ap (λ b. list_any (λ n. n == q) numbers || b) (sym (none-left c.args.reads.now c.loop-read.read-index q c.loop-read-test.false))
+    ∙ c.loop-read.invariant q
