@@ -1,12 +1,11 @@
 -- The rows that were put behind others, and parts that meet.
-use Rattle.std.proofs.Common.{◌≡◌, ℕ, zero, suc, ◌+◌, ◌-◌, ◌<◌, ◌≤◌, Bool, List, [], ◌∷◌, ◌++◌, length, take, drop, refl, ap, ap₂, sym, ◌∙◌, subst, arith}
+use Rattle.std.proofs.Common.{◌≡◌, ℕ, ◌+◌, ◌-◌, ◌≤◌, List, ◌++◌, length, take, drop, refl, ap, ap₂, sym, ◌∙◌, arith}
 use Rattle.std.specs.Prelude.{slice_range}
 use Rattle.std.proofs.lemmas.List.{take_all, drop_at}
-use Rattle.vx_rows.specs.Columns.{Bools, Ints, Texts, Structs}
-use Rattle.vx_rows.specs.Rows.{Rows, FieldRows, bools, ints, texts, structs, no_columns, column, rows_len, dtype_of, types_of, HasRows, AllHaveRows, IsColumn}
+use Rattle.vx_rows.specs.Rows.{Rows, FieldRows, bools, ints, texts, structs, no_columns, column, dtype_of, types_of, HasRows, AllHaveRows}
 use Rattle.vx_rows.specs.Parts.{part, field_parts, appended, fields_appended}
 use Rattle.vx_data.specs.Dtype.{Dtype, FieldList, field}
-use Rattle.vx_rows.proofs.ColumnLaws.{first-type, rest-types, fields-same, struct-null, bool-null, text-null, int-null, int-type, parts_again, part_of_part, part_rows, front_again, all-kept, appended_rows}
+use Rattle.vx_rows.proofs.ColumnLaws.{first-type, rest-types, fields-same, struct-null, bool-null, text-null, int-null, int-type, parts_again, part_of_part, part_rows, front_again, appended_rows}
 use Rattle.vx_write.proofs.CutLemmas.{SameRows}
 
 back-kept : {A : Type 0} → (xs ys : List A) (n m : ℕ) → length xs ≡ n → length ys ≡ m → slice_range (xs ++ ys) n (n + m) ≡ ys

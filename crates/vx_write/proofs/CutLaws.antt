@@ -1,20 +1,20 @@
 -- Cutting what is kept with what comes is cutting all rows.
-use Rattle.std.proofs.Common.{◌≡◌, ℕ, zero, suc, ◌+◌, ◌-◌, ◌*◌, ◌/◌, ◌<◌, ◌≤◌, Bool, true, false, List, [], ◌∷◌, ◌++◌, Option, refl, ap, ap₂, sym, ◌∙◌, subst, arith, inl, inr, append_assoc}
-use Rattle.std.specs.Prelude.{nat_le, if◌then◌else◌, ◌⊎◌, unwrap_or}
+use Rattle.std.proofs.Common.{◌≡◌, ℕ, zero, suc, ◌+◌, ◌-◌, ◌*◌, ◌/◌, ◌≤◌, true, false, List, [], ◌∷◌, ◌++◌, refl, ap, ap₂, sym, ◌∙◌, subst, arith, inl, inr, append_assoc}
+use Rattle.std.specs.Prelude.{nat_le, ◌⊎◌, unwrap_or}
 use Rattle.std.specs.List.{All, AllByRecursion}
 use Rattle.std.proofs.lemmas.List.{append-nil}
 use Rattle.vx_data.specs.Dtype.{Dtype}
-use Rattle.std.proofs.lemmas.Bool.{cases_Bool, true≢false}
+use Rattle.std.proofs.lemmas.Bool.{cases_Bool}
 use Rattle.std.proofs.lemmas.List.Elements.{All-nil, All-cons}
 use Rattle.std.proofs.Math.Nat.{mul-suc, mul-add-div, mul-div-le}
-use Rattle.vx_rows.specs.Rows.{Rows, rows_len, dtype_of, HasRows, IsColumn}
-use Rattle.vx_rows.specs.Parts.{part, appended, plain_size}
-use Rattle.vx_rows.proofs.ColumnLaws.{rows_are, column_rows, part_rows, part_type, part_of_part, appended_rows, appended_type, all-kept}
+use Rattle.vx_rows.specs.Rows.{Rows, rows_len, dtype_of, HasRows}
+use Rattle.vx_rows.specs.Parts.{part, appended}
+use Rattle.vx_rows.proofs.ColumnLaws.{rows_are, part_rows, part_type, part_of_part, appended_rows, appended_type, all-kept}
 use Rattle.vx_write.specs.declared.strategy.LeafStrategy.{LeafStrategy}
 use Rattle.vx_write.specs.declared.strategy.LeafStrategy.TheVariants.{Whole, Blocks}
 use Rattle.vx_write.specs.Strategies.{HasBlocks}
-use Rattle.vx_write.specs.Cutting.{Cut, cut_blocks, cut, nothing_full, with_chunk, full_chunks, rest, joined, with_chunks, all_pushed, chunks_over, rest_over, IsPush}
-use Rattle.vx_write.proofs.CutLemmas.{cut_full, cut_open, cut_none, more_size, go_on, blocks_behind, SameRows, moved, blocks_moved, Begins, Left, blocks_left}
+use Rattle.vx_write.specs.Cutting.{Cut, cut_blocks, cut, nothing_full, full_chunks, rest, joined, with_chunks, all_pushed, chunks_over, rest_over, IsPush}
+use Rattle.vx_write.proofs.CutLemmas.{cut_full, cut_open, cut_none, more_size, go_on, blocks_behind, moved, blocks_moved, Left, blocks_left}
 use Rattle.vx_write.proofs.BehindLemmas.{front_same, part_same, parts_meet, part_goes_on}
 
 -- ---- where the next chunk begins

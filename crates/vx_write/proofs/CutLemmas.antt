@@ -1,10 +1,10 @@
 -- How blocks are gathered: a column that goes on, a part of a column, and the rows behind full chunks.
-use Rattle.std.proofs.Common.{◌≡◌, ℕ, zero, suc, ◌+◌, ◌-◌, ◌*◌, ◌<◌, ◌≤◌, Bool, true, false, List, [], ◌∷◌, ◌++◌, refl, ap, sym, ◌∙◌, subst, arith, inl, inr, add-one}
+use Rattle.std.proofs.Common.{◌≡◌, ℕ, zero, suc, ◌+◌, ◌*◌, ◌≤◌, Bool, true, false, refl, ap, sym, ◌∙◌, subst, arith, inl, inr}
 use Rattle.std.specs.Prelude.{nat_le, if◌then◌else◌, ◌⊎◌}
-use Rattle.std.proofs.lemmas.Bool.{cases_Bool, true≢false}
+use Rattle.std.proofs.lemmas.Bool.{cases_Bool}
 use Rattle.std.proofs.Math.Nat.{mul-suc}
-use Rattle.vx_rows.specs.Rows.{Rows, rows_len, dtype_of, HasRows, IsColumn}
-use Rattle.vx_rows.specs.Parts.{part, appended, plain_size}
+use Rattle.vx_rows.specs.Rows.{Rows}
+use Rattle.vx_rows.specs.Parts.{part, plain_size}
 use Rattle.vx_write.specs.Cutting.{Cut, cut_blocks, nothing_full, with_chunk, with_chunks}
 
 -- ---- one block

@@ -1,15 +1,13 @@
 -- A column that is cut, and the rows that it leaves.
-use Rattle.std.proofs.Common.{◌≡◌, ℕ, zero, suc, ◌+◌, ◌-◌, ◌*◌, ◌/◌, ◌%◌, ◌<◌, ◌≤◌, Bool, true, false, List, [], ◌∷◌, ◌++◌, map, Option, Some, None, refl, ap, ap₂, sym, ◌∙◌, subst, arith, inl, inr}
-use Rattle.std.specs.Prelude.{unwrap_or}
+use Rattle.std.proofs.Common.{◌≡◌, ℕ, ◌-◌, ◌/◌, ◌≤◌, List, [], ◌∷◌, ◌++◌, refl, ap, ap₂, sym, ◌∙◌, subst, arith}
 use Rattle.std.proofs.lemmas.List.{map-append}
 use Rattle.std.proofs.Math.Nat.{mul-div-le}
 use Rattle.vx_rows.specs.declared.column.Column.{Column}
-use Rattle.vx_rows.specs.Rows.{Rows, rows_len, dtype_of, HasRows, IsColumn, column_view}
-use Rattle.vx_rows.specs.Parts.{part, appended, plain_size}
-use Rattle.vx_write.specs.declared.gathering.Gathered.{Gathered}
+use Rattle.vx_rows.specs.Rows.{Rows, rows_len, column_view}
+use Rattle.vx_rows.specs.Parts.{part}
 use Rattle.vx_write.specs.declared.gathering.Gathered.TheVariants.{Full, Open}
 use Rattle.vx_write.specs.Cutting.{Cut, cut_blocks, nothing_full, with_chunk, with_chunks}
-use Rattle.vx_write.specs.Gathering.{gathered_from, EndsWithin}
+use Rattle.vx_write.specs.Gathering.{gathered_from}
 use Rattle.vx_write.specs.Chunks.{columns_seen}
 use Rattle.vx_write.proofs.GatherLemmas.{Cuts, FillsAt, gather_cuts}
 use Rattle.vx_write.proofs.HeldLemmas.{blocks_are}

@@ -1,14 +1,14 @@
 -- Where gathered blocks fill a chunk.
-use Rattle.std.proofs.Common.{◌≡◌, ℕ, zero, suc, ◌+◌, ◌-◌, ◌*◌, ◌/◌, ◌^◌, ◌<◌, ◌≤◌, min, Bool, true, false, List, [], ◌∷◌, refl, ap, ap₂, sym, ◌∙◌, subst, arith, inl, inr}
+use Rattle.std.proofs.Common.{◌≡◌, ℕ, zero, suc, ◌+◌, ◌-◌, ◌*◌, ◌/◌, ◌^◌, ◌<◌, ◌≤◌, min, Bool, true, false, refl, ap, ap₂, sym, ◌∙◌, subst, arith, inl, inr}
 use Rattle.std.specs.Prelude.{nat_le, if◌then◌else◌, ◌⊎◌}
-use Rattle.std.proofs.lemmas.Bool.{cases_Bool, leb-true, le-leb}
+use Rattle.std.proofs.lemmas.Bool.{cases_Bool}
 use Rattle.std.proofs.lemmas.Bool.Decides.{leb_tells}
 use Rattle.std.proofs.Math.Nat.{mul-suc, mul-div-le}
 use Rattle.vx_rows.specs.Rows.{Rows}
 use Rattle.vx_rows.specs.Parts.{part, plain_size}
 use Rattle.vx_write.specs.declared.gathering.Gathered.{Gathered}
 use Rattle.vx_write.specs.declared.gathering.Gathered.TheVariants.{Full, Open}
-use Rattle.vx_write.specs.Cutting.{Cut, cut_blocks, nothing_full, with_chunk}
+use Rattle.vx_write.specs.Cutting.{cut_blocks, nothing_full, with_chunk}
 use Rattle.vx_write.specs.Gathering.{gathered_from, EndsWithin}
 use Rattle.vx_write.proofs.CutLemmas.{cut_full, cut_open, cut_none, more_size, SameRows}
 

@@ -1,7 +1,6 @@
 -- Leaves one after the other.
-use Rattle.std.proofs.Common.{◌≡◌, ℕ, zero, suc, ◌+◌, ◌-◌, ◌^◌, ◌<◌, ◌≤◌, ◌≢◌, min, Bool, List, [], ◌∷◌, ◌++◌, map, length, get_or, set, take, drop, drop-cons, get_or-set_other, Option, Some, None, refl, ap, ap₂, sym, ◌∙◌, subst, arith, append_assoc}
-use Rattle.std.specs.Prelude.{slice_get, slice_index_or, sum_by}
-use Rattle.std.specs.List.{All}
+use Rattle.std.proofs.Common.{◌≡◌, ℕ, zero, suc, ◌+◌, ◌<◌, ◌≤◌, ◌≢◌, List, [], ◌∷◌, ◌++◌, length, get_or, set, take, drop, drop-cons, get_or-set_other, Some, refl, ap, ap₂, sym, ◌∙◌, subst, arith, append_assoc}
+use Rattle.std.specs.Prelude.{slice_get}
 use Rattle.std.proofs.lemmas.List.{map-append, length-map, length-set, drop_all, take_all, append-nil, take_more_set}
 use Rattle.std.proofs.lemmas.List.Sums.{sum_by-cons}
 use Rattle.std.proofs.lemmas.List.Elements.{All-nil, All-cons, All-append, All-head, All-tail}
@@ -10,7 +9,7 @@ use Rattle.vx_rows.specs.declared.column.Column.{Column}
 use Rattle.vx_rows.specs.Rows.{Rows, column_view, rows_len, dtype_of, IsColumn}
 use Rattle.vx_rows.specs.Parts.{appended, plain_size}
 use Rattle.vx_rows.proofs.ColumnLaws.{part_type, appended_type}
-use Rattle.vx_write.specs.Cutting.{full_chunks, rest, last_chunk, cut}
+use Rattle.vx_write.specs.Cutting.{full_chunks, last_chunk, cut}
 use Rattle.vx_write.specs.Leaves.{Leaf, ChunkRows, LeafState, nows, nexts, leaf_type, leaf_types, column_types, AreSound, chunks_at, filled_from, grown, grown_leaf, rests_from, held_size, IsChunk, AreChunks, IsOfType, AllOfType}
 use Rattle.vx_write.specs.Chunks.{columns_seen}
 

@@ -1,14 +1,14 @@
 -- The leaves of fields, one after the other.
-use Rattle.std.proofs.Common.{◌≡◌, ℕ, zero, suc, ◌+◌, ◌<◌, ◌≤◌, List, [], ◌∷◌, ◌++◌, map, length, get_or, drop, drop-cons, Option, refl, ap, ap₂, sym, ◌∙◌, subst, arith, append_assoc, Bool}
+use Rattle.std.proofs.Common.{◌≡◌, ℕ, zero, suc, ◌+◌, ◌<◌, ◌≤◌, List, [], ◌∷◌, ◌++◌, length, get_or, drop, drop-cons, Option, refl, ap, ap₂, sym, ◌∙◌, subst, arith, append_assoc, Bool}
 use Rattle.std.specs.Prelude.{String}
 use Rattle.std.specs.Global.{Global}
 use Rattle.std.proofs.lemmas.List.{drop_all, append-nil}
-use Rattle.vx_data.specs.Dtype.{Dtype, FieldList, struct, no_fields, field, dtype_view, pairs_view}
+use Rattle.vx_data.specs.Dtype.{FieldList, struct, dtype_view, pairs_view}
 use Rattle.vx_data.specs.declared.dtype.DType.{DType}
 use Rattle.vx_write.specs.declared.strategy.LeafStrategy.{LeafStrategy}
 use Rattle.vx_write.specs.declared.plan.Plan.{Plan}
 use Rattle.vx_write.specs.Leaves.{Leaf}
-use Rattle.vx_write.specs.Plans.{PlanTree, PlanList, a_struct, plan_view, plans_view, IsFor, AreFor, leaves_of, leaves_in, validity_leaves}
+use Rattle.vx_write.specs.Plans.{PlanList, a_struct, plan_view, plans_view, IsFor, AreFor, leaves_of, leaves_in, validity_leaves}
 
 next_plan : (ps : List Plan) (i : ℕ) (p : Plan) → i < length ps → p ≡ get_or ps i p → drop i ps ≡ p ∷ drop (i + 1) ps
 next_plan ps i p h e = let one : i + 1 ≡ suc i = omega arith in drop-cons ps i p h ∙ ap (λ x. x ∷ drop (suc i) ps) (sym e) ∙ ap (λ n. p ∷ drop n ps) (sym one)

@@ -1,5 +1,5 @@
 -- Chunks that are placed one behind the other.
-use Rattle.std.proofs.Common.{◌≡◌, ℕ, ◌+◌, ◌-◌, ◌<◌, ◌≤◌, ◌^◌, Bool, true, false, List, [], ◌∷◌, ◌++◌, length, map, take, drop, get_or, Option, Ok, Err, refl, sym, ap, subst, ◌∙◌, arith, append_assoc, length-append, drop-cons, add-one}
+use Rattle.std.proofs.Common.{◌≡◌, ℕ, ◌+◌, ◌-◌, ◌<◌, ◌≤◌, ◌^◌, Bool, true, false, List, [], ◌∷◌, ◌++◌, length, map, Option, Ok, Err, refl, sym, ap, subst, ◌∙◌, arith, length-append}
 use Rattle.std.specs.Prelude.{Result, IsOk, nat_lt, replicate, ◌==◌, if◌then◌else◌}
 use Rattle.std.proofs.lemmas.Bool.{eqb-true, eqb-false}
 use Rattle.std.proofs.lemmas.Bool.Decides.{nat_tests}
@@ -10,15 +10,13 @@ use Rattle.vx_footer.specs.Serialized.{joined}
 use Rattle.vx_footer.specs.PostscriptWritten.{FailsToWrite}
 use Rattle.vx_footer.specs.declared.write_error.WriteError.{WriteError}
 use Rattle.vx_footer.specs.declared.write_error.WriteError.TheVariants.{TooManyMetadata, EmptyKey, LongKey, NotPermitted, TooDeep, TooManyTables, ChunkDType, RowsOverflow, ChunkFault, SegmentTooLong, TooManySegments, OffsetOverflow, WriteFault, WriterFailed, DuplicateKey, OutOfMemory}
-use Rattle.vx_rows.specs.Encoded.{is_permitted, array_bytes}
-use Rattle.vx_rows.specs.Rows.{rows_len}
 use Rattle.vx_write.specs.declared.laid_chunk.Laid.{Laid}
 use Rattle.vx_write.specs.Leaves.{ChunkRows}
 use Rattle.vx_write.specs.Placed.{Place, Encoded, magic, segments_in, lead, piece, with_chunk, pieces, with_chunks, IsAlive, Wrote, Failed}
 use Rattle.vx_write.specs.Sending.{Coding, encoded_chunk, encoded_chunks, chunk_checks, chunks_checks, Going}
-use Rattle.vx_write.specs.Sinks.{spec_of, behind, placed, zeros_before, place_checks}
+use Rattle.vx_write.specs.Sinks.{spec_of, behind, zeros_before, place_checks}
 use Rattle.vx_write.specs.Taken.{TookAll, TookPart, Sent, Checked}
-use Rattle.vx_write.proofs.TakenLemmas.{nothing_taken, no_part, part_first, sent_start, sent_step, sent_cut, sent_part, sent_end}
+use Rattle.vx_write.proofs.TakenLemmas.{no_part, sent_start, sent_step, sent_cut, sent_end}
 
 -- ---- refusals
 

@@ -1,5 +1,5 @@
 -- What stands after a segment that is not written.
-use Rattle.std.proofs.Common.{◌≡◌, ◌-◌, ◌^◌, Bool, true, false, List, length, take, Ok, Err, inl, sym, subst}
+use Rattle.std.proofs.Common.{◌≡◌, ◌-◌, ◌^◌, Bool, true, false, List, length, take, Err, inl, sym, subst}
 use Rattle.std.specs.Prelude.{nat_lt}
 use Rattle.vx_base.specs.Buffer.{Buffer}
 use Rattle.vx_base.specs.Checks.{◌>>=◌, ◌unless◌}

@@ -1,15 +1,14 @@
 -- What a sink took, turn by turn and piece by piece, with the count of it.
-use Rattle.std.proofs.Common.{◌≡◌, ℕ, true, ◌+◌, ◌-◌, ◌<◌, ◌≤◌, List, [], ◌∷◌, ◌++◌, length, take, drop, get_or, Option, Some, None, Ok, Err, refl, sym, ap, subst, ◌∙◌, arith, append_assoc, length-append, length-drop, drop-cons, add-one, inl, inr}
-use Rattle.std.specs.Prelude.{Result, Bool}
+use Rattle.std.proofs.Common.{◌≡◌, ℕ, true, ◌+◌, ◌<◌, ◌≤◌, List, [], ◌∷◌, ◌++◌, length, take, drop, get_or, Option, Err, refl, sym, ap, subst, ◌∙◌, arith, append_assoc, length-append, length-drop, drop-cons, add-one}
+use Rattle.std.specs.Prelude.{Result}
 use Rattle.std.specs.List.{flat_map}
-use Rattle.std.proofs.lemmas.List.{append-nil, drop_all, take-append-drop, take-append-le, drop-drop}
+use Rattle.std.proofs.lemmas.List.{append-nil, drop_all, take-append-drop, take-append-le}
 use Rattle.std.proofs.Math.Seq.{take-append-add}
-use Rattle.vx_base.specs.Counts.{Rises}
 use Rattle.vx_base.specs.Streams.{SinkState, SameSink, same_sink-then, Took}
 use Rattle.vx_base.proofs.TakingLemmas.{nothing-took, took-both, rises-later}
 use Rattle.vx_footer.specs.declared.write_error.WriteError.{WriteError}
-use Rattle.vx_footer.specs.declared.write_error.WriteError.TheVariants.{WriteFault, OutOfMemory}
-use Rattle.vx_write.specs.Taken.{TookAll, TookPart, Sent, SinkCause, Checked}
+use Rattle.vx_footer.specs.declared.write_error.WriteError.TheVariants.{WriteFault}
+use Rattle.vx_write.specs.Taken.{TookAll, TookPart, Sent, SinkCause}
 
 -- ---- all of some bytes, or the first ones
 

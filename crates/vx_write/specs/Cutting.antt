@@ -1,5 +1,5 @@
 -- How the rows of a leaf are cut into chunks.
-use Rattle.std.specs.Prelude.{◌≡◌, ℕ, zero, suc, ◌+◌, ◌/◌, ◌==◌, nat_le, if◌then◌else◌, List, [], ◌∷◌, ◌++◌, Option, unwrap_or}
+use Rattle.std.specs.Prelude.{◌≡◌, ℕ, zero, suc, ◌+◌, ◌/◌, ◌==◌, nat_le, if◌then◌else◌, List, [], ◌∷◌, ◌++◌, unwrap_or}
 use Rattle.vx_data.specs.Dtype.{Dtype}
 use Rattle.vx_rows.specs.Rows.{Rows, rows_len, dtype_of, HasRows}
 use Rattle.vx_rows.specs.Parts.{part, appended, plain_size}

@@ -1,5 +1,5 @@
 -- How the blocks of one column are gathered.
-use Rattle.std.specs.Prelude.{◌≡◌, ℕ, zero, suc, ◌+◌, ◌-◌, ◌/◌, ◌<◌, ◌≤◌, nat_le, if◌then◌else◌}
+use Rattle.std.specs.Prelude.{ℕ, zero, suc, ◌+◌, ◌-◌, ◌/◌, ◌<◌, ◌≤◌, nat_le, if◌then◌else◌}
 use Rattle.vx_rows.specs.Rows.{Rows, rows_len}
 use Rattle.vx_rows.specs.Parts.{part, plain_size}
 use Rattle.vx_write.specs.declared.gathering.Gathered.{Gathered}

@@ -32,8 +32,11 @@ AreSound columns = All (λ (c : Rows). IsColumn (rows_len c) c) columns
 -- ---- a push of a column for each leaf
 
 -- the chunks of the leaf at a place
+abbrev pub chunk_at : ℕ → Rows → ChunkRows
+chunk_at place c = record { leaf = place; rows = c }
+
 abbrev pub chunks_at : ℕ → List Rows → List ChunkRows
-chunks_at place chunks = map (λ c. record { leaf = place; rows = c }) chunks
+chunks_at place chunks = map (chunk_at place) chunks
 
 -- the chunks that are full then, leaf after leaf, of which the first is at a place
 abbrev pub filled_from : ℕ → List Leaf → List Rows → List ChunkRows

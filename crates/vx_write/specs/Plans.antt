@@ -1,7 +1,7 @@
 -- How the rows of a type are laid out: the leaves of the type, and the strategy of each.
-use Rattle.std.specs.Prelude.{◌≡◌, ℕ, Bool, true, false, if◌then◌else◌, List, [], ◌∷◌, ◌++◌, map, Option, Some, None, is_some}
+use Rattle.std.specs.Prelude.{◌≡◌, Bool, false, if◌then◌else◌, List, [], ◌∷◌, ◌++◌, map, Option, Some, None, is_some}
 use Rattle.vx_data.specs.Dtype.{Dtype, FieldList, bool, int, text, struct, no_fields, field}
-use Rattle.vx_rows.specs.Rows.{Rows, FieldRows, bools, ints, texts, structs, no_columns, column, dtype_of}
+use Rattle.vx_rows.specs.Rows.{Rows, FieldRows, bools, ints, texts, structs, no_columns, column}
 use Rattle.vx_rows.specs.Parts.{presence}
 use Rattle.vx_rows.specs.ReadRows.{no_rows}
 use Rattle.vx_write.specs.declared.strategy.LeafStrategy.{LeafStrategy}

@@ -1,15 +1,14 @@
 -- The chunks of leaves as they are encoded and written, one behind the other.
-use Rattle.std.specs.Prelude.{◌≡◌, ℕ, List, [], ◌∷◌, length, map, Option, Result, Ok}
-use Rattle.vx_base.specs.Buffer.{Buffer}
+use Rattle.std.specs.Prelude.{◌≡◌, ℕ, List, [], ◌∷◌, map, Option, Result, Ok, Err}
 use Rattle.vx_base.specs.Checks.{◌>>=◌, ◌unless◌}
 use Rattle.vx_footer.specs.declared.write_error.WriteError.{WriteError}
 use Rattle.vx_footer.specs.declared.write_error.WriteError.TheVariants.{NotPermitted}
-use Rattle.vx_rows.specs.Rows.{Rows, rows_len}
+use Rattle.vx_rows.specs.Rows.{rows_len}
 use Rattle.vx_rows.specs.Encoded.{is_permitted, array_bytes}
 use Rattle.vx_write.specs.Leaves.{ChunkRows}
-use Rattle.vx_write.specs.Placed.{Place, Encoded, with_chunk, with_chunks, pieces, segments_in, IsAlive, Wrote, Failed}
+use Rattle.vx_write.specs.Placed.{Place, Encoded, with_chunk, with_chunks, pieces, segments_in, IsAlive, Failed}
 use Rattle.vx_write.specs.Sinks.{place_checks}
-use Rattle.vx_write.specs.Taken.{Sent}
+use Rattle.vx_write.specs.Taken.{Sent, Checked}
 
 -- how chunks are encoded: by these ids of arrays, at this alignment
 pub record Coding : Type 0 where
@@ -38,3 +37,8 @@ pub record Going (k : Coding) (before : Place) (all rest : List ChunkRows) (g : 
   pub checks : chunks_checks k before all ≡ chunks_checks k now rest
   pub alive : IsAlive now
   pub quiet : now.taken ≡ 0 → now ≡ before
+
+-- the chunks before the rest were written, or a part of all chunks was, as the checks tell
+abbrev pub Goes : Coding → Place → List ChunkRows → List ChunkRows → Option (List ℕ) → Place → Option (List ℕ) → Result (Unit {0}) WriteError → Type 0
+Goes k p all rest g now h (Ok x) = Going k p all rest g now h
+Goes k p all rest g now h (Err e) = Failed p (encoded_chunks k all) g now h × Checked {A = Unit {0}} (Err e) (chunks_checks k p all)

@@ -1,5 +1,5 @@
 -- Segments that are placed one behind the other, and what writing one leaves.
-use Rattle.std.specs.Prelude.{◌≡◌, ◌⊎◌, ℕ, ◌+◌, ◌-◌, ◌%◌, ◌^◌, ◌<◌, ◌≤◌, ◌&&◌, ◌==◌, Bool, true, nat_lt, nat_le, List, [], ◌∷◌, ◌++◌, length, replicate, Option, Result, Ok, Err}
+use Rattle.std.specs.Prelude.{◌≡◌, ◌⊎◌, ℕ, ◌+◌, ◌-◌, ◌%◌, ◌^◌, ◌&&◌, ◌==◌, Bool, nat_lt, nat_le, List, [], ◌∷◌, ◌++◌, length, replicate, Result, Ok, Err}
 use Rattle.vx_base.specs.Buffer.{Buffer}
 use Rattle.vx_base.specs.Checks.{◌>>=◌, ◌unless◌}
 use Rattle.vx_base.specs.Counts.{Rises}

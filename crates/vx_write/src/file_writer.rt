@@ -19,7 +19,7 @@ ghost use Rattle.vx_write.specs.Taken.{SinkCause, Checked};
 ghost use Rattle.vx_write.specs.Written.{begin_checks, IsChunk};
 
 use crate::column_stats::{gather, merge, no_stats};
-use crate::held_leaves::{Chunk, HeldLeaves};
+use crate::held_leaves::{HeldLeaves, LeafChunks};
 use crate::needs::{is_permitted, is_shallow};
 use crate::options::VortexWriteOptions;
 use crate::output::Output;
@@ -66,7 +66,7 @@ fn prepare(
     held: &mut HeldLeaves,
     wanted: &[Stat],
     chunk: &Column,
-) -> Result<(Vec<RunningStats>, Vec<Chunk>), AllocError>
+) -> Result<(Vec<RunningStats>, Vec<LeafChunks>), AllocError>
     requires fit { IsFor (plan_view plan.now) (dtype_of (column_view chunk.now)) }
     requires even { IsColumn (rows_len (column_view chunk.now)) (column_view chunk.now) }
     requires types { leaf_types held.old.now ≡ leaf_types (leaves_of (plan_view plan.now) (dtype_of (column_view chunk.now))) }

@@ -16,11 +16,11 @@ use std::mem;
 use vx_data::DType;
 use vx_rows::Column;
 
-/// A chunk of a leaf, which is named by its place in preorder.
+/// The chunks of a leaf, which is named by its place in preorder.
 #[derive(Drop)]
-pub(crate) struct Chunk {
+pub(crate) struct LeafChunks {
     pub leaf: usize,
-    pub rows: Column,
+    pub columns: Vec<Column>,
 }
 
 /// The leaves of a file, and the rows that are held back of each.
@@ -41,23 +41,33 @@ impl Model for HeldLeaves {
 }
 
 /// Adds the chunks of a leaf.
-fn push_chunks(chunks: &mut Vec<Chunk>, leaf: usize, columns: Vec<Column>) -> Result<(), AllocError>
+#[tactic(auto, using(crate::proofs::SendingLemmas::chunks_more))]
+fn push_chunks(
+    chunks: &mut Vec<LeafChunks>,
+    leaf: usize,
+    columns: Vec<Column>,
+) -> Result<(), AllocError>
     ensures { OnOk result (chunks_view chunks.new.items ≡ chunks_view chunks.old.items ++ chunks_at leaf (columns_seen columns.items)) }
 {
-    for rows in columns {
-        chunks.push(Chunk { leaf, rows })?;
-    }
+    chunks.push(LeafChunks { leaf, columns })?;
     Ok(())
 }
 
 /// Adds the last chunk of a leaf, if there is one.
-fn push_last(chunks: &mut Vec<Chunk>, leaf: usize, last: Option<Column>) -> Result<(), AllocError>
+fn push_last(
+    alloc: Global,
+    chunks: &mut Vec<LeafChunks>,
+    leaf: usize,
+    last: Option<Column>,
+) -> Result<(), AllocError>
     ensures { OnOk result (chunks_view chunks.new.items ≡ chunks_view chunks.old.items ++ chunks_at leaf (last_seen last)) }
 {
     match last {
         None => Ok(()),
-        Some(rows) => {
-            chunks.push(Chunk { leaf, rows })?;
+        Some(column) => {
+            let mut columns = Vec::new(alloc);
+            columns.push(column)?;
+            push_chunks(chunks, leaf, columns)?;
             Ok(())
         }
     }
@@ -68,7 +78,7 @@ fn feed_each(
     alloc: Global,
     leaves: &mut Vec<HeldLeaf>,
     columns: &[Column],
-) -> Result<Vec<Chunk>, AllocError>
+) -> Result<Vec<LeafChunks>, AllocError>
     requires typed { column_types (columns_seen columns.now) ≡ leaf_types (nows leaves.old.items) }
     requires sound { AreSound (columns_seen columns.now) }
     ensures chunks { IfOk result (λ chunks. chunks_view chunks.items ≡ filled (nows leaves.old.items) (columns_seen columns.now)) }
@@ -104,7 +114,7 @@ fn take(alloc: Global, leaf: &mut HeldLeaf) -> Result<HeldLeaf, AllocError>
 }
 
 /// The last chunks of leaves, which are taken away.
-fn finish_each(alloc: Global, leaves: &mut Vec<HeldLeaf>) -> Result<Vec<Chunk>, AllocError>
+fn finish_each(alloc: Global, leaves: &mut Vec<HeldLeaf>) -> Result<Vec<LeafChunks>, AllocError>
     ensures chunks { IfOk result (λ chunks. chunks_view chunks.items ≡ rests (nows leaves.old.items)) }
     ensures sound { IfOk result (λ chunks. AreChunks (leaf_types (nows leaves.old.items)) (chunks_view chunks.items)) }
 {
@@ -113,7 +123,7 @@ fn finish_each(alloc: Global, leaves: &mut Vec<HeldLeaf>) -> Result<Vec<Chunk>, 
         let leaf = &mut leaves[at];
         let taken = take(alloc, leaf)?;
         let last = taken.finish(alloc)?;
-        push_last(&mut chunks, at, last)?;
+        push_last(alloc, &mut chunks, at, last)?;
     }
     Ok(chunks)
 }
@@ -146,7 +156,7 @@ impl HeldLeaves {
         &mut self,
         alloc: Global,
         columns: &[Column],
-    ) -> Result<Vec<Chunk>, AllocError>
+    ) -> Result<Vec<LeafChunks>, AllocError>
         requires typed { column_types (columns_seen columns.now) ≡ leaf_types self.old.now }
         requires sound { AreSound (columns_seen columns.now) }
         ensures chunks { IfOk result (λ chunks. chunks_view chunks.items ≡ filled self.old.now (columns_seen columns.now)) }
@@ -167,7 +177,7 @@ impl HeldLeaves {
     }
 
     /// The last chunks, of the rows that are held back, leaf after leaf. Only memory refuses.
-    pub(crate) fn finish(self, alloc: Global) -> Result<Vec<Chunk>, AllocError>
+    pub(crate) fn finish(self, alloc: Global) -> Result<Vec<LeafChunks>, AllocError>
         ensures chunks { IfOk result (λ chunks. chunks_view chunks.items ≡ rests self.now) }
         ensures sound { IfOk result (λ chunks. AreChunks (leaf_types self.now) (chunks_view chunks.items)) }
     {

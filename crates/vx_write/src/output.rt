@@ -1,5 +1,6 @@
 //! Writes the chunks of a file behind its magic, and keeps where they lie.
 ghost use Rattle.std.specs.Prelude.{◌≡◌, ◌+◌, ◌≤◌, ◌<◌, ◌^◌, ◌++◌, ◌∷◌, [], Ok, Err, OnOk, OnErr, IfOk, length, replicate, map};
+ghost use Rattle.std.specs.List.{flat_map};
 ghost use Rattle.vx_footer.specs.Serialized.{joined};
 ghost use Rattle.vx_base.specs.Buffer.{Buffer};
 ghost use Rattle.vx_footer.specs.declared.write_error.WriteError.TheVariants.{WriteFault};
@@ -87,6 +88,49 @@ pub(crate) fn write_led<S: Sink>(
     }
 }
 
+/// Zeros that stand at hand.
+static ZEROS: [u8; 64] = [0; 64];
+
+/// So many zeros of those at hand.
+fn few_zeros(count: usize) -> &'static [u8]
+    requires { count ≤ 64 }
+    ensures { result.now ≡ replicate count 0 }
+{
+    &ZEROS[..count]
+}
+
+/// Three pieces.
+fn three<'a>(first: &'a [u8], second: &'a [u8], third: &'a [u8]) -> [&'a [u8]; 3]
+    ensures { flat_map (λ part. part.now) result ≡ first.now ++ (second.now ++ (third.now ++ [])) }
+{
+    [first, second, third]
+}
+
+/// Writes a buffer as `write_led` does. Nearly always the zeros are few, and no memory is taken.
+pub(crate) fn write_one<S: Sink>(
+    alloc: Global,
+    out: &mut S,
+    taken: &mut u64,
+    zeros: u64,
+    buffer: &ByteBuffer,
+) -> Result<(), WriteError>
+    requires { taken.old + length (lead_of_file taken.old ++ (replicate zeros 0 ++ joined (buffer.now ∷ []))) < 2 ^ 64 }
+    ensures ok { OnOk result
+        (TookAll (lead_of_file taken.old ++ (replicate zeros 0 ++ joined (buffer.now ∷ []))) (S.state out.old).gained
+        (S.state out.new).gained taken.old taken.new) }
+    ensures err { OnErr result
+        (TookPart (lead_of_file taken.old ++ (replicate zeros 0 ++ joined (buffer.now ∷ []))) (S.state out.old).gained
+        (S.state out.new).gained taken.old taken.new) }
+    ensures cause { SinkCause (S.state out.old) (S.state out.new) result }
+    ensures only { Checked {B = Unit {0}} result (Ok tt) }
+{
+    if zeros > ZEROS.len() as u64 {
+        return write_led(alloc, out, taken, zeros, array::from_ref(buffer));
+    }
+    let parts = three(lead(*taken), few_zeros(zeros as usize), buffer.as_slice());
+    write_parts(alloc, out, taken, &parts)
+}
+
 impl Output {
     /// Nothing yet.
     pub(crate) fn new(alloc: Global) -> Output
@@ -160,7 +204,7 @@ impl Output {
             Ok(()) => {}
             Err(_) => return Err(WriteError::OutOfMemory),
         }
-        match write_led(alloc, out, &mut self.taken, placing.zeros, buffers) {
+        match write_one(alloc, out, &mut self.taken, placing.zeros, buffer) {
             Ok(()) => {}
             Err(error) => return Err(error),
         }

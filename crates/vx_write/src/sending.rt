@@ -1,20 +1,21 @@
 //! Writes the chunks of leaves, each as one segment.
-ghost use Rattle.std.specs.Prelude.{◌≡◌, ◌<◌, ◌≤◌, ◌^◌, ◌∷◌, [], Ok, Err, true, OnOk, OnErr, IfOk, IfErr, length, map, string_bytes};
+ghost use Rattle.std.specs.Prelude.{◌≡◌, ℕ, ◌<◌, ◌≤◌, ◌^◌, ◌∷◌, ◌++◌, [], List, Option, Ok, Err, true, OnOk, OnErr, IfOk, IfErr, length, map, string_bytes};
 ghost use Rattle.vx_footer.specs.declared.write_error.WriteError.TheVariants.{WriteFault, OutOfMemory};
 ghost use Rattle.vx_rows.specs.Rows.{column_view, rows_len};
 ghost use Rattle.vx_rows.specs.Encoded.{is_permitted, array_bytes};
-ghost use Rattle.vx_write.specs.Chunks.{chunk_view, chunks_view};
-ghost use Rattle.vx_write.specs.Placed.{Wrote, Failed, IsAlive};
-ghost use Rattle.vx_write.specs.Sending.{Coding, encoded_chunk, encoded_chunks, chunk_checks, chunks_checks};
+ghost use Rattle.vx_write.specs.Chunks.{leaf_view, chunks_view};
+ghost use Rattle.vx_write.specs.Leaves.{ChunkRows, chunk_at};
+ghost use Rattle.vx_write.specs.Placed.{Place, Wrote, Failed, IsAlive};
+ghost use Rattle.vx_write.specs.Sending.{Coding, encoded_chunk, encoded_chunks, chunk_checks, chunks_checks, Going, Goes};
 ghost use Rattle.vx_write.specs.Taken.{SinkCause, Checked};
 
-use crate::held_leaves::Chunk;
+use crate::held_leaves::LeafChunks;
 use crate::output::Output;
 use std::alloc::Global;
 use std::marker::Model;
 use vx_base::{Alignment, ByteBuffer, Sink};
 use vx_footer::WriteError;
-use vx_rows::{EncodeError, encode_array};
+use vx_rows::{Column, EncodeError, encode_array};
 
 /// How chunks are encoded: by these ids of arrays, at this alignment.
 #[derive(Drop)]
@@ -65,14 +66,15 @@ fn encode(
     alloc: Global,
     coding: &ChunkCoding,
     output: &Output,
-    chunk: &Chunk,
+    leaf: usize,
+    rows: &Column,
 ) -> Result<ByteBuffer, WriteError>
-    ensures ok { IfOk result (λ b. b ≡ (encoded_chunk coding.now (chunk_view chunk.now)).buffer) }
-    ensures permitted { OnOk result (is_permitted coding.now.ids (column_view chunk.now.rows) ≡ true) }
-    ensures checked { IfErr result (λ e. (e ≡ OutOfMemory → ⊥) → chunk_checks coding.now output.now (chunk_view chunk.now) ≡ Err e) }
+    ensures ok { IfOk result (λ b. b ≡ (encoded_chunk coding.now (chunk_at leaf (column_view rows.now))).buffer) }
+    ensures permitted { OnOk result (is_permitted coding.now.ids (column_view rows.now) ≡ true) }
+    ensures checked { IfErr result (λ e. (e ≡ OutOfMemory → ⊥) → chunk_checks coding.now output.now (chunk_at leaf (column_view rows.now)) ≡ Err e) }
     ensures fault { result ≡ Err WriteFault → ⊥ }
 {
-    match encode_array(alloc, &chunk.rows, coding.ids()) {
+    match encode_array(alloc, rows, coding.ids()) {
         Ok(bytes) => Ok(bytes.aligned(coding.alignment())),
         Err(EncodeError::NotPermitted) => Err(WriteError::NotPermitted),
         Err(EncodeError::SegmentTooLong) => Err(output.too_long()),
@@ -80,42 +82,68 @@ fn encode(
     }
 }
 
-/// Writes a chunk behind those before it.
+/// Writes a chunk of a leaf behind those before it.
 fn write_chunk<S: Sink>(
     alloc: Global,
     out: &mut S,
     coding: &ChunkCoding,
     output: &mut Output,
-    chunk: &Chunk,
+    leaf: usize,
+    rows: &Column,
 ) -> Result<(), WriteError>
     requires { IsAlive output.old }
     ensures ok { OnOk result
-        (Wrote output.old (encoded_chunk coding.now (chunk_view chunk.now) ∷ []) (S.state out.old).gained output.new
+        (Wrote output.old (encoded_chunk coding.now (chunk_at leaf (column_view rows.now)) ∷ []) (S.state out.old).gained output.new
         (S.state out.new).gained) }
     ensures err { OnErr result
-        (Failed output.old (encoded_chunk coding.now (chunk_view chunk.now) ∷ []) (S.state out.old).gained output.new
+        (Failed output.old (encoded_chunk coding.now (chunk_at leaf (column_view rows.now)) ∷ []) (S.state out.old).gained output.new
         (S.state out.new).gained) }
-    ensures checked { Checked result (chunk_checks coding.now output.old (chunk_view chunk.now)) }
+    ensures checked { Checked result (chunk_checks coding.now output.old (chunk_at leaf (column_view rows.now))) }
     ensures cause { SinkCause (S.state out.old) (S.state out.new) result }
 {
-    let buffer = match encode(alloc, coding, output, chunk) {
+    let buffer = match encode(alloc, coding, output, leaf, rows) {
         Ok(buffer) => buffer,
         Err(error) => return Err(error),
     };
-    let rows = chunk.rows.len() as u64;
-    match output.write_chunk(alloc, out, chunk.leaf, rows, &buffer) {
+    match output.write_chunk(alloc, out, leaf, rows.len() as u64, &buffer) {
         Ok(()) => Ok(()),
         Err(error) => Err(error),
     }
 }
 
-/// Writes chunks, one behind the other, behind those before them.
+/// Writes the chunks of a leaf, one behind the other, behind those before them.
+fn write_leaf<S: Sink>(
+    alloc: Global,
+    out: &mut S,
+    coding: &ChunkCoding,
+    output: &mut Output,
+    chunks: &LeafChunks,
+) -> Result<(), WriteError>
+    requires { IsAlive output.old }
+    // Of chunks that were to be written from a place on, of which these are the next ones, those behind them are left, or they
+    // were written in part, as far as the checks and the sink let them.
+    ensures going { (p : Place) (all rest : List ChunkRows) (g : Option (List ℕ)) →
+        Going coding.now p all (leaf_view chunks.now ++ rest) g output.old (S.state out.old).gained →
+        Goes coding.now p all rest g output.new (S.state out.new).gained result }
+    ensures cause { SinkCause (S.state out.old) (S.state out.new) result }
+{
+    let columns = chunks.columns.as_slice();
+    for at in 0..columns.len() {
+        match write_chunk(alloc, out, coding, output, chunks.leaf, &columns[at]) {
+            Ok(()) => {}
+            Err(error) => return Err(error),
+        }
+    }
+    Ok(())
+}
+
+/// Writes the chunks of leaves, one behind the other, behind those before them.
 pub(crate) fn write_chunks<S: Sink>(
     alloc: Global,
     out: &mut S,
     coding: &ChunkCoding,
     output: &mut Output,
-    chunks: &[Chunk],
+    chunks: &[LeafChunks],
 ) -> Result<(), WriteError>
     requires { IsAlive output.old }
     ensures ok { OnOk result
@@ -128,7 +156,7 @@ pub(crate) fn write_chunks<S: Sink>(
     ensures cause { SinkCause (S.state out.old) (S.state out.new) result }
 {
     for at in 0..chunks.len() {
-        match write_chunk(alloc, out, coding, output, &chunks[at]) {
+        match write_leaf(alloc, out, coding, output, &chunks[at]) {
             Ok(()) => {}
             Err(error) => return Err(error),
         }

@@ -1,7 +1,6 @@
-use Rattle.std.proofs.Common.{◌≡◌, ◌-◌, ◌/◌, ◌∙◌, sym, ap, subst, rules}
+use Rattle.std.proofs.Common.{◌∙◌, sym, subst}
 use Rattle.vx_rows.specs.Rows.{column_view, rows_len}
-use Rattle.vx_write.specs.declared.gathering.Gathered.{Gathered}
-use Rattle.vx_write.specs.Gathering.{gathered_from, EndsWithin}
+use Rattle.vx_write.specs.Gathering.{EndsWithin}
 use Rattle.vx_write.specs.Chunks.{columns_seen}
 use Rattle.vx_write.proofs.FeedLemmas.{cut_turn, cut_last}
 use Rattle.vx_write.proofs.cutting.cut_column.Goals as goal

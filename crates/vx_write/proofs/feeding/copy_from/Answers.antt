@@ -1,4 +1,4 @@
-use Rattle.std.proofs.Common.{◌≡◌, ℕ, ◌∙◌, ap}
+use Rattle.std.proofs.Common.{ℕ, ◌∙◌, ap}
 use Rattle.vx_data.specs.Dtype.{dtype_view}
 use Rattle.vx_rows.specs.Rows.{column_view, rows_len}
 use Rattle.vx_rows.specs.Parts.{part, appended}

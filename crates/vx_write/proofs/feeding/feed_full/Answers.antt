@@ -1,4 +1,4 @@
-use Rattle.std.proofs.Common.{◌≡◌, ◌≤◌, ℕ, ◌∙◌, ap, sym, subst, arith}
+use Rattle.std.proofs.Common.{ℕ, ◌∙◌, ap, sym, subst, arith}
 use Rattle.vx_rows.specs.Rows.{Rows, column_view, rows_len, IsColumn}
 use Rattle.vx_rows.specs.Parts.{part}
 use Rattle.vx_write.proofs.HoldingLemmas.{sound_part}

@@ -1,9 +1,8 @@
-use Rattle.std.proofs.Common.{◌≡◌, ◌+◌, ◌-◌, ◌/◌, ◌<◌, ◌≤◌, ℕ, Bool, true, false, sym, ◌∙◌, ap, arith, rules}
+use Rattle.std.proofs.Common.{◌≡◌, ◌+◌, ◌-◌, ◌/◌, ℕ, true, false, sym, ◌∙◌, ap, arith}
 use Rattle.std.specs.Prelude.{nat_le}
-use Rattle.vx_rows.specs.Rows.{column_view, rows_len}
+use Rattle.vx_rows.specs.Rows.{column_view}
 use Rattle.vx_rows.specs.Parts.{part, plain_size}
 use Rattle.vx_write.specs.Gathering.{gathered_from}
-use Rattle.vx_write.proofs.CutLemmas.{more_size}
 use Rattle.vx_write.proofs.GatherLemmas.{full_turn, open_turn, place_turn, last_turn}
 use Rattle.vx_write.proofs.gathering.gather.Goals as goal
 

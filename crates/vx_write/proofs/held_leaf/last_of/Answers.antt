@@ -1,4 +1,4 @@
-use Rattle.std.proofs.Common.{◌≡◌, ◌∙◌, ap, sym, subst}
+use Rattle.std.proofs.Common.{◌∙◌, subst}
 use Rattle.vx_rows.specs.Rows.{Rows, column_view, rows_len, IsColumn}
 use Rattle.vx_write.proofs.LeafLemmas.{last_typed}
 use Rattle.vx_write.proofs.held_leaf.last_of.Goals as goal

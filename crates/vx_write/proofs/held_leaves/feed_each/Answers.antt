@@ -1,7 +1,6 @@
-use Rattle.std.proofs.Common.{◌≡◌, ◌<◌, ◌≤◌, ◌∙◌, length, get_or, sym, rules, arith}
-use Rattle.vx_rows.specs.Rows.{column_view}
+use Rattle.std.proofs.Common.{◌<◌, ◌≤◌, ◌∙◌, length, sym, rules, arith}
 use Rattle.vx_write.specs.Chunks.{chunks_view, columns_seen}
-use Rattle.vx_write.proofs.LeavesLemmas.{ahead_start, ahead_set, now_set, as_many, typed_at, sound_at, filled_more, filled_end, chunks_sound, grown_more, grown_end}
+use Rattle.vx_write.proofs.LeavesLemmas.{ahead_set, now_set, as_many, typed_at, sound_at, filled_more, filled_end, chunks_sound, grown_more, grown_end}
 use Rattle.vx_write.proofs.held_leaves.feed_each.Goals as goal
 
 pub bounds-columns-at : goal.bounds-columns-at

@@ -1,9 +1,7 @@
-use Rattle.std.proofs.Common.{◌≡◌, ◌<◌, ◌≤◌, ◌∙◌, List, length, get_or, sym, ap, subst, rules, arith}
-use Rattle.vx_rows.specs.Rows.{Rows}
-use Rattle.vx_write.specs.Cutting.{last_chunk}
+use Rattle.std.proofs.Common.{◌<◌, ◌≤◌, ◌∙◌, length, sym, subst, rules, arith}
 use Rattle.vx_write.specs.Leaves.{LeafState, leaf_type, AllOfType}
 use Rattle.vx_write.specs.Chunks.{chunks_view, last_seen}
-use Rattle.vx_write.proofs.LeavesLemmas.{ahead_start, ahead_set, rests_more, rests_end, chunks_sound}
+use Rattle.vx_write.proofs.LeavesLemmas.{ahead_set, rests_more, rests_end, chunks_sound}
 use Rattle.vx_write.proofs.held_leaves.finish_each.Goals as goal
 
 pub loop-at-preserved : goal.loop-at-preserved

@@ -1,4 +1,4 @@
-use Rattle.std.proofs.Common.{◌≡◌, ◌<◌, ◌≤◌, ◌∙◌, length, get_or, sym, rules, arith}
+use Rattle.std.proofs.Common.{◌<◌, ◌≤◌, ◌∙◌, length, sym, rules, arith}
 use Rattle.vx_write.proofs.LeavesLemmas.{ahead_start, ahead_set, settled_more, settled_end}
 use Rattle.vx_write.proofs.held_leaves.settle_each.Goals as goal
 

@@ -1,5 +1,4 @@
-use Rattle.std.proofs.Common.{◌≡◌, ◌+◌, ◌<◌, ◌≤◌, ◌∙◌, ◌++◌, length, sym, ap, rules, arith}
-use Rattle.vx_data.specs.Dtype.{pairs_view}
+use Rattle.std.proofs.Common.{◌<◌, ◌≤◌, ◌∙◌, length, sym, rules, arith}
 use Rattle.vx_rows.proofs.TreeLemmas.{field_size}
 use Rattle.vx_write.specs.Leaves.{nows}
 use Rattle.vx_write.proofs.NewLeavesLemmas.{as_many_types, is_for_at, leaves_more, leaves_end}

@@ -4,7 +4,6 @@ use Rattle.vx_rows.specs.Rows.{Rows, column_view, dtype_of}
 use Rattle.vx_rows.specs.Parts.{part, appended}
 use Rattle.vx_write.specs.Cutting.{full_chunks}
 use Rattle.vx_rows.proofs.ColumnLaws.{part_type}
-use Rattle.vx_write.specs.Chunks.{columns_seen}
 use Rattle.vx_write.specs.Leaves.{LeafState, leaf_type, AllOfType}
 use Rattle.vx_write.proofs.LeafLemmas.{full_typed}
 use Rattle.vx_write.proofs.held_leaf.HeldLeaf.feed.Goals as goal

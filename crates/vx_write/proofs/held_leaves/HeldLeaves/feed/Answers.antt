@@ -1,5 +1,5 @@
-use Rattle.std.proofs.Common.{◌≡◌, ◌∙◌, List, ap, sym, subst}
-use Rattle.vx_write.specs.Leaves.{Leaf, LeafStates, nows, grown, leaf_types, column_types}
+use Rattle.std.proofs.Common.{◌≡◌, ◌∙◌, List, ap, sym}
+use Rattle.vx_write.specs.Leaves.{Leaf, LeafStates, nows, grown, leaf_types}
 use Rattle.vx_write.specs.Chunks.{columns_seen}
 use Rattle.vx_write.proofs.LeavesLemmas.{push_typed}
 use Rattle.vx_write.proofs.held_leaves.HeldLeaves.feed.Goals as goal

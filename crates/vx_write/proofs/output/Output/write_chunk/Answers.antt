@@ -1,5 +1,4 @@
-use Rattle.std.proofs.Common.{rules, arith, subst, ◌<◌, ◌-◌, ◌^◌, ◌≡◌, ℕ, ◌++◌, ◌∷◌, [], List, length, map, sym}
-use Rattle.std.proofs.lemmas.List.{length-map}
+use Rattle.std.proofs.Common.{rules, arith, subst, ◌<◌, ◌-◌, ◌^◌, ◌≡◌, ◌++◌, ◌∷◌, [], List, length, map}
 use Rattle.vx_base.specs.declared.segment.SegmentSpec.{SegmentSpec}
 use Rattle.vx_write.specs.declared.laid_chunk.Laid.{Laid}
 use Rattle.vx_write.specs.Placed.{Place, Encoded, piece}
@@ -22,9 +21,9 @@ returns-clause-ok g c =
     let state = g.S.Sink.state in
     let p = c.args.self.now in
     let e : Encoded = record { leaf = c.args.leaf; rows = c.args.rows; buffer = c.args.buffer.now } in
-    let now : Place = record { laid = c.push_reserved.new.self.items; offset = c.in-Ok.placing.next; taken = c.write_led.new.taken } in
-    let took : TookAll (piece p e) (state c.args.out.now).gained (state c.write_led.new.out).gained p.taken now.taken = search rules in
+    let now : Place = record { laid = c.push_reserved.new.self.items; offset = c.in-Ok.placing.next; taken = c.write_one.new.taken } in
+    let took : TookAll (piece p e) (state c.args.out.now).gained (state c.write_one.new.out).gained p.taken now.taken = search rules in
     let laid : now.laid ≡ p.laid ++ record { spec = spec_of p.offset (e.buffer ∷ []); leaf = e.leaf; rows = e.rows } ∷ [] = search rules in
     let offset : now.offset ≡ behind p.offset (e.buffer ∷ []) = search rules in
     let few : length c.self.inside.laid.items < 2 ^ 32 - 1 = omega (arith, c.in-Ok.ensures.few) in
-    wrote_one p now e (state c.args.out.now).gained (state c.write_led.new.out).gained c.requires (subst (λ (q : Place). length q.laid < 2 ^ 32 - 1) c.self.view_is few) took laid offset
+    wrote_one p now e (state c.args.out.now).gained (state c.write_one.new.out).gained c.requires (subst (λ (q : Place). length q.laid < 2 ^ 32 - 1) c.self.view_is few) took laid offset
