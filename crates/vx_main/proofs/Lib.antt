@@ -27,3 +27,4 @@ pub mod TableLemmas
 pub mod TextLemmas
 pub mod Unopened
 mod QuotedLemmas
+pub mod NumberLemmas

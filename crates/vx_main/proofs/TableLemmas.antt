@@ -10,8 +10,8 @@ use Rattle.vx_data.specs.Dtype.{Dtype}
 use Rattle.vx_rows.specs.declared.rows_error.RowsError.TheVariants.{BadLine}
 use Rattle.vx_rows.specs.ReadRows.{line_in, with_first, lines_of, rows_behind, rows_of}
 use Rattle.vx_rows.specs.Rows.{Rows}
-use Rattle.vx_rows.proofs.PlainTextLemmas.{first-of, second-of}
-use Rattle.vx_rows.proofs.ReadingLemmas.{is_other, other-test, other_more}
+use Rattle.vx_rows.proofs.PlainTextLemmas.{first-of, second-of, taken_more}
+use Rattle.vx_rows.proofs.ReadingLemmas.{is_other, other-test}
 use Rattle.vx_main.specs.Tables.{as_ascii, first_line, behind_line}
 
 -- ---- bytes
@@ -115,6 +115,10 @@ first_unfed t n past other = first-all t (other-all t n past other)
 
 pub behind_unfed : (t : List ℕ) (n : ℕ) → length t ≤ n → list_all is_other (take n t) ≡ true → [] ≡ behind_line t
 behind_unfed t n past other = behind-all t (other-all t n past other)
+
+-- one byte more that is no line feed
+pub other_more : (t : List ℕ) (n : ℕ) → n < length t → list_all is_other (take n t) ≡ true → (slice_index t n ≡ 10 → ⊥) → list_all is_other (take (n + 1) t) ≡ true
+other_more t n l h ne = taken_more is_other t n l h (grind (arith, nat_tests))
 
 pub ruleset line_steps = (other_more, first_fed, behind_cut, first_unfed, behind_unfed)
 

@@ -33,8 +33,14 @@ mod table;
 mod text;
 mod words;
 
+use crate::failure::Failure;
+use std::io::BufWriter;
+use std::mem;
 use std::process::ExitCode;
 use vx_base::{FileOpener, StdSink, StdSource};
+
+// As many bytes are gathered before they go out. Small blocks of a file are a few bytes each.
+const OUTPUT_ROOM: usize = 1 << 18;
 
 fn main(rt: HostRuntime) -> ExitCode {
     let alloc = rt.alloc();
@@ -46,8 +52,11 @@ fn main(rt: HostRuntime) -> ExitCode {
             return ExitCode::from(run::fail(alloc, &mut err, &failure));
         }
     };
+    let Ok(output) = BufWriter::with_capacity(alloc, OUTPUT_ROOM, rt.stdout()) else {
+        return ExitCode::from(run::fail(alloc, &mut err, &Failure::OutOfMemory));
+    };
     let mut input = StdSource::new(rt.stdin());
-    let mut out = StdSink::new(rt.stdout());
+    let mut out = StdSink::new(output);
     let mut files = FileOpener::new(rt);
     let status = run::run(
         alloc,
@@ -57,5 +66,9 @@ fn main(rt: HostRuntime) -> ExitCode {
         &mut out,
         &mut err,
     );
+    if status != 0 {
+        // what a failure left unwritten stays so, which a drop would write
+        mem::forget(out);
+    }
     ExitCode::from(status)
 }

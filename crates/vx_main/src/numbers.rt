@@ -1,8 +1,11 @@
 //! The numbers that texts spell.
-ghost use Rattle.std.specs.Prelude.{◌≡◌, Some};
+ghost use Rattle.std.specs.Prelude.{◌≡◌, ◌≤◌, length, Some, None, if◌then◌else◌};
 ghost use Rattle.std.specs.List.{list_all};
 ghost use Rattle.std.specs.Char.{is_ascii_digit};
-ghost use Rattle.vx_main.specs.Numbers.{number_of, is_plain as is_plain_text, positive as positive_value, negative as negative_value, value_of};
+ghost use Rattle.vx_main.specs.Numbers.{number_of, value_after, is_plain as is_plain_text, positive as positive_value, negative as negative_value, value_of};
+
+/// So many digits spell a number below 2^64, whatever they are.
+const FEW: usize = 19;
 
 fn are_digits(text: &[u8]) -> bool
     ensures { result ≡ list_all is_ascii_digit text.now }
@@ -23,9 +26,25 @@ fn is_plain(text: &[u8]) -> bool
     are_digits(text)
 }
 
-/// The number that decimal digits spell, without sign or leading zero, below 2^64.
+/// The number that bytes spell, which are digits and few.
+fn few_digits(text: &[u8]) -> Option<u64>
+    requires { length text.now ≤ 19 }
+    ensures { result ≡ (if list_all is_ascii_digit text.now then Some (value_after 0 text.now) else None) }
+{
+    let mut value = 0u64;
+    for at in 0..text.len() {
+        let byte = text[at];
+        if !byte.is_ascii_digit() {
+            return None;
+        }
+        value = 10 * value + u64::from(byte - b'0');
+    }
+    Some(value)
+}
+
+/// The same as `number`, of any length.
 #[tactic(auto, unfolding(crate::specs::Numbers::number_of))]
-pub(crate) fn number(text: &[u8]) -> Option<u64>
+fn long_number(text: &[u8]) -> Option<u64>
     ensures { result ≡ number_of text.now }
 {
     if !is_plain(text) {
@@ -38,6 +57,23 @@ pub(crate) fn number(text: &[u8]) -> Option<u64>
             .checked_add(u64::from(digit.saturating_sub(b'0')))?;
     }
     Some(value)
+}
+
+/// The number that decimal digits spell, without sign or leading zero, below 2^64. Nearly all have few digits.
+#[tactic(auto, using(crate::proofs::NumberLemmas::few_spell, crate::proofs::NumberLemmas::zero_spells, crate::proofs::NumberLemmas::zero_behind, crate::proofs::NumberLemmas::nothing_spells))]
+pub(crate) fn number(text: &[u8]) -> Option<u64>
+    ensures { result ≡ number_of text.now }
+{
+    if text.len() > FEW {
+        return long_number(text);
+    }
+    if text.is_empty() {
+        return None;
+    }
+    if text[0] == b'0' {
+        return if text.len() == 1 { Some(0) } else { None };
+    }
+    few_digits(text)
 }
 
 /// The value of a magnitude, where it has 32 bits.

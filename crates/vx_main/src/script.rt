@@ -8,8 +8,6 @@ use crate::numbers::number;
 use std::alloc::{AllocError, AllocFailed, Global};
 use vx_file::Step;
 
-const GO: &[u8] = b"go";
-
 /// Why a script could not be read.
 #[derive(Clone, Copy, Debug, PartialEq, Eq)]
 pub enum ScriptError {
@@ -72,10 +70,10 @@ fn numbered(line: &[u8]) -> Option<Step>
 fn step(line: &[u8]) -> Option<Step>
     ensures { result ≡ step_of line.now }
 {
-    if line == GO {
-        return Some(Step::Drive);
+    match line {
+        [b'g', b'o'] => Some(Step::Drive),
+        _ => numbered(line),
     }
-    numbered(line)
 }
 
 /// How many bytes stand before the first line feed.
@@ -104,15 +102,30 @@ fn after_line(text: &[u8], end: usize) -> &[u8]
     &text[end + 1..]
 }
 
+/// So many bytes are counted at once, with a count of one byte.
+const BLOCK: usize = 128;
+
+/// How many line feeds a block has at most.
+#[inline(always)]
+fn most_feeds(block: &[u8]) -> u8
+    requires { length block.now ≤ 128 }
+    ensures { result ≤ length block.now }
+{
+    let mut count = 0;
+    for byte in block {
+        count += u8::from(*byte == b'\n');
+    }
+    count
+}
+
 /// How many lines a text has at most.
 fn most_lines(text: &[u8]) -> usize
     ensures { result ≤ length text.now + 1 }
 {
     let mut count = 1;
-    for byte in text {
-        if *byte == b'\n' {
-            count += 1;
-        }
+    for at in (0..text.len()).step_by(BLOCK) {
+        let end = at + BLOCK.min(text.len() - at);
+        count += usize::from(most_feeds(&text[at..end]));
     }
     count
 }

@@ -1,5 +1,6 @@
-use Rattle.std.proofs.Common.{◌+◌, ◌≤◌}
+use Rattle.std.proofs.Common.{◌+◌, ◌≤◌, length}
 use Rattle.vx_main.proofs.script.most_lines.Given as goal
 
-abbrev pub invariant-loop-byte : goal.invariant-loop-byte
-invariant-loop-byte l = l.count ≤ l.byte-index + 1
+-- each line feed so far was counted once
+abbrev pub invariant-loop-at : goal.invariant-loop-at
+invariant-loop-at l = (l.count ≤ l.at + 1) × (l.count ≤ length l.text + 1)

@@ -1,6 +1,6 @@
 use Rattle.std.proofs.Common.{arith, sym, rules}
 use Rattle.vx_main.proofs.Lines.{number_past_here, number_whole}
-use Rattle.vx_main.proofs.numbers.number.Goals as goal
+use Rattle.vx_main.proofs.numbers.long_number.Goals as goal
 
 pub returns-in_err-checked_mul : goal.returns-in_err-checked_mul
 returns-in_err-checked_mul c = rw (number_past_here c.args.text.now c.loop-digit.digit-index c.loop-digit.value (omega arith) c.loop-digit.invariant.told (omega arith)) (search rules)

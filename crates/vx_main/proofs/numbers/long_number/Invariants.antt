@@ -1,6 +1,6 @@
 use Rattle.std.proofs.Common.{◌≡◌, ◌<◌, ◌^◌, drop}
 use Rattle.vx_main.specs.Numbers.{value_after}
-use Rattle.vx_main.proofs.numbers.number.Given as goal
+use Rattle.vx_main.proofs.numbers.long_number.Given as goal
 
 abbrev pub invariant-loop-digit : goal.invariant-loop-digit
 invariant-loop-digit l = record {
