@@ -113,6 +113,27 @@ fn writes_a_footer(rt: HostRuntime) -> Result<(), Fail> {
 }
 
 #[test]
+fn writes_listed_tables_as_their_vector(rt: HostRuntime) -> Result<(), Fail> {
+    let alloc = rt.alloc();
+    let mut list = TableList::new(alloc);
+    assert!(rt; list.is_empty());
+    let mut tables = Vec::new(alloc);
+    for id in ARRAY_IDS {
+        let table = id_table(alloc, id)?;
+        list.push(&table)?;
+        tables.push(table)?;
+    }
+    assert!(rt; !list.is_empty());
+    let mut listed = TableWriter::new(alloc);
+    listed.push_list(alloc, 0, &list)?;
+    let mut kept = TableWriter::new(alloc);
+    kept.push_tables(alloc, 0, tables)?;
+    let (listed, kept) = (listed.finish(alloc)?, kept.finish(alloc)?);
+    assert!(rt; listed.as_slice() == kept.as_slice());
+    Ok(())
+}
+
+#[test]
 fn writes_a_postscript(rt: HostRuntime) -> Result<(), Fail> {
     let mut table = TableWriter::new(rt.alloc());
     table.push_table(rt.alloc(), 0, segment_table(rt.alloc(), 26, 21)?)?;
