@@ -97,10 +97,10 @@ fn a_failing_sink_holds_a_part(rt: HostRuntime) -> Result<(), Fail> {
     let alloc = rt.alloc();
     let whole = file_of_four(alloc)?;
     // The last of these calls is the flush, before which the whole was taken.
-    for call in 0..8 {
+    for call in 0..9 {
         let file = four_values(alloc, vec![in alloc; call]?)?;
         assert!(rt; is_part(&file, whole.as_slice()));
-        assert!(rt; (file.bytes.len() == 449) == (call == 7));
+        assert!(rt; (file.bytes.len() == 449) == (call == 8));
     }
     Ok(())
 }
