@@ -11,6 +11,9 @@ use crate::{Column, Columns, EncodeError};
 use std::alloc::{AllocError, Global};
 use vx_base::{Alignment, ByteBuffer};
 
+/// The most bytes of rows for which room is made before they are there.
+const MOST_ROOM: u64 = 16_777_216;
+
 /// The first place of an id; their number where it is not among them.
 fn place_of(ids: &[String], id: &str) -> usize
     ensures { result ≡ place_in (map string_bytes ids.now) id.now }
@@ -154,6 +157,13 @@ fn push_column(bytes: &mut Vec<u8>, ids: &[String], column: &Column) -> Result<(
     push_body(bytes, ids, column)
 }
 
+/// Room for the bytes of a column: what its rows take, or a first piece of very many.
+fn room_for(column: &Column) -> usize
+    ensures { result ≤ 16777280 }
+{
+    64 + column.plain_size().min(MOST_ROOM) as usize
+}
+
 /// The bytes of a column by the ids of a file's array encodings, of which there are at most 65,536. NotPermitted
 /// where an id that it needs is not among them; SegmentTooLong where the bytes exceed 2^32 - 1.
 pub fn encode_array(
@@ -170,7 +180,7 @@ pub fn encode_array(
     if !is_permitted(ids, column) {
         return Err(EncodeError::NotPermitted);
     }
-    let mut bytes = Vec::new(alloc);
+    let mut bytes = Vec::with_capacity(alloc, room_for(column))?;
     push_column(&mut bytes, ids, column)?;
     if bytes.len() >= 1 << 32 {
         return Err(EncodeError::SegmentTooLong);

@@ -13,7 +13,7 @@ returns-clause-back c n is =
     let few : length (map string_bytes c.args.ids.now) ≤ 65536 = omega (arith, count, c.requires) in
     let known : is_permitted (map string_bytes c.args.ids.now) (column_view c.args.column.now) ≡ true = search rules in
     let pushed : c.push_column.new.bytes.items ≡ array_bytes (map string_bytes c.args.ids.now) (column_view c.args.column.now) =
-    c.in_ok-push_column.ensures ∙ ap (λ (xs : List ℕ). xs ++ array_bytes (map string_bytes c.args.ids.now) (column_view c.args.column.now)) c.new-bytes.ensures.items in
+    c.in_ok-push_column.ensures ∙ ap (λ (xs : List ℕ). xs ++ array_bytes (map string_bytes c.args.ids.now) (column_view c.args.column.now)) c.in_ok-bytes.ensures.items in
     let same : c.in_ok-from_vec.field-0.bytes ≡ array_bytes (map string_bytes c.args.ids.now) (column_view c.args.column.now) =
     ap (λ (b : Buffer). b.bytes) c.in_ok-from_vec.ensures ∙ pushed in
     let long = ap length pushed in
