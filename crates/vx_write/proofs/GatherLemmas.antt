@@ -1,7 +1,7 @@
 -- Where gathered blocks fill a chunk.
 use Rattle.std.proofs.Common.{◌≡◌, ℕ, zero, suc, ◌+◌, ◌-◌, ◌*◌, ◌/◌, ◌^◌, ◌<◌, ◌≤◌, min, Bool, true, false, refl, ap, ap₂, sym, ◌∙◌, subst, arith, inl, inr}
 use Rattle.std.specs.Prelude.{nat_le, if◌then◌else◌, ◌⊎◌}
-use Rattle.std.proofs.lemmas.Bool.{cases_Bool}
+use Rattle.std.proofs.lemmas.Bool.{cases_Bool, le-leb}
 use Rattle.std.proofs.lemmas.Bool.Decides.{leb_tells}
 use Rattle.std.proofs.Math.Nat.{mul-suc, mul-div-le}
 use Rattle.vx_rows.specs.Rows.{Rows}
@@ -42,6 +42,10 @@ pub gather_open : (rows target : ℕ) (c : Rows) (gathered at n : ℕ) → nat_l
     → gathered_from rows target c gathered at (suc n) ≡ gathered_from rows target c (more_size rows c gathered at) (at + rows) n
 unfolding gathered_from
 gather_open rows target c gathered at n e = ap (λ (b : Bool). if b then Full (at + rows) else gathered_from rows target c (more_size rows c gathered at) (at + rows) n) e
+
+-- any block fills a chunk that has as many bytes as it is to have
+pub full_anyhow : (rows target : ℕ) (c : Rows) (gathered at : ℕ) → target ≤ gathered → nat_le target (more_size rows c gathered at) ≡ true
+full_anyhow rows target c gathered at h = le-leb target (more_size rows c gathered at) (omega (arith, h))
 
 -- ---- what cutting makes of it
 

@@ -1,9 +1,10 @@
 -- Rows that are held, and rows that come.
-use Rattle.std.proofs.Common.{◌≡◌, ℕ, ◌+◌, ◌-◌, ◌*◌, ◌/◌, ◌%◌, ◌<◌, ◌≤◌, List, [], ◌∷◌, Option, Some, None, refl, ap, ap₂, sym, ◌∙◌, subst, arith}
+use Rattle.std.proofs.Common.{◌≡◌, ℕ, ◌+◌, ◌-◌, ◌*◌, ◌/◌, ◌%◌, ◌<◌, ◌≤◌, List, [], ◌∷◌, ◌++◌, Option, Some, None, refl, ap, ap₂, sym, ◌∙◌, subst, arith}
 use Rattle.std.specs.Prelude.{unwrap_or, Result, Ok, Err, IfOk}
 use Rattle.std.proofs.Math.Nat.{div-eq_of_lt, mod-lt, mod-le}
 use Rattle.vx_rows.specs.Rows.{Rows, rows_len, dtype_of, IsColumn}
 use Rattle.vx_rows.specs.Parts.{part, appended, plain_size}
+use Rattle.vx_rows.specs.declared.column.Column.{Column}
 use Rattle.vx_rows.proofs.ColumnLaws.{column_rows, rows_are, part_rows, part_type, part_of_part, part_is_column, appended_rows, appended_is_column, all-kept}
 use Rattle.vx_write.specs.declared.strategy.LeafStrategy.{LeafStrategy}
 use Rattle.vx_write.specs.declared.strategy.LeafStrategy.TheVariants.{Blocks, Whole}
@@ -13,14 +14,15 @@ use Rattle.vx_write.specs.Strategies.{HasBlocks}
 use Rattle.vx_write.specs.declared.pending.Pending.{Pending}
 use Rattle.vx_write.specs.declared.cutting.CutColumn.{CutColumn}
 use Rattle.vx_write.specs.declared.feeding.Fed.{Fed}
-use Rattle.vx_write.specs.Cutting.{Cut, cut_blocks, cut as cut_of, nothing_full, with_chunk, with_chunks, full_chunks, rest}
+use Rattle.vx_write.specs.Cutting.{Cut, cut_blocks, cut as cut_of, nothing_full, with_chunk, full_chunks, rest}
 use Rattle.vx_write.specs.Gathering.{first_end}
 use Rattle.vx_write.specs.Holding.{Holds}
 use Rattle.vx_write.specs.Feeding.{cut_view, FeedsFirst, Feeds}
-use Rattle.vx_write.specs.Chunks.{columns_seen}
+use Rattle.vx_write.specs.Chunks.{chunks_seen, last_seen}
+use Rattle.vx_write.specs.CutParts.{parts_from}
 use Rattle.vx_write.proofs.CutLemmas.{moved}
 use Rattle.vx_write.proofs.BehindLemmas.{back_again, back_same, parts_meet, part_goes_on}
-use Rattle.vx_write.proofs.CutLaws.{blocks_within, blocks_after, start_inside, rest_open, front_cut, with_chunks_are, with_chunks_start, with_chunks_gathered}
+use Rattle.vx_write.proofs.CutLaws.{blocks_within, blocks_after, start_inside, rest_open, front_cut}
 use Rattle.vx_write.proofs.HeldLemmas.{Meets, HeldCut, held_cut, shared_block}
 use Rattle.vx_write.proofs.StillLemmas.{whole_part}
 
@@ -57,15 +59,14 @@ missing_is rows n from h e =
 
 -- ---- a column of which nothing was held
 
-pub first_fed : (rows bytes : ℕ) (target : Option ℕ) (c : Rows) (before : List Rows) (cut : CutColumn) (held : Rows) → bytes ≡ unwrap_or target 0
-    → cut_view cut ≡ with_chunks before (cut_blocks rows bytes c 0 0 0 (rows_len c / rows)) → held ≡ part cut.start (rows_len c) c
-    → FeedsFirst rows target before c (record { chunks = cut.chunks; pending = record { rows = Some held; gathered = cut.gathered } })
-first_fed rows bytes target c before cut held b e is =
-    let all : cut_view cut ≡ with_chunks before (cut_of (Blocks rows target) c) = e ∙ ap (λ t. with_chunks before (cut_blocks rows t c 0 0 0 (rows_len c / rows))) b in
-    let start : cut.start ≡ (cut_of (Blocks rows target) c).start = ap (λ (x : Cut). x.start) all ∙ with_chunks_start before (cut_of (Blocks rows target) c) in record {
-      chunks = ap (λ (x : Cut). x.chunks) all ∙ with_chunks_are before (cut_of (Blocks rows target) c);
-      kept = ap Some (is ∙ ap (λ n. part n (rows_len c) c) start);
-      gathered = ap (λ (x : Cut). x.gathered) all ∙ with_chunks_gathered before (cut_of (Blocks rows target) c);
+pub first_fed : (rows bytes : ℕ) (target : Option ℕ) (c : Rows) (first : Option Column) (cut : CutColumn) (others : List Rows) (held : Rows) → bytes ≡ unwrap_or target 0
+    → cut_view c cut ≡ cut_blocks rows bytes c 0 0 0 (rows_len c / rows) → held ≡ part cut.start (rows_len c) c → others ≡ parts_from c 0 cut.ends.items
+    → FeedsFirst rows target (last_seen first) c (record { chunks = record { first = first; others = Some others }; pending = record { rows = Some held; gathered = cut.gathered } })
+first_fed rows bytes target c first cut others held b e is parts =
+    let all : cut_view c cut ≡ cut_of (Blocks rows target) c = e ∙ ap (λ t. cut_blocks rows t c 0 0 0 (rows_len c / rows)) b in record {
+      chunks = ap (λ xs. last_seen first ++ xs) (parts ∙ ap (λ (x : Cut). x.chunks) all);
+      kept = ap Some (is ∙ ap (λ n. part n (rows_len c) c) (ap (λ (x : Cut). x.start) all));
+      gathered = ap (λ (x : Cut). x.gathered) all;
     }
 
 -- what a column leaves is held
@@ -145,7 +146,7 @@ pub none_rest : (s : LeafStrategy) (c : Rows) (g : ℕ) → cut_of s c ≡ nothi
 none_rest s c g e h = ap (λ (x : Cut). part x.start (rows_len c) c) e ∙ all-kept c (rows_len c) (column_rows (rows_len c) c h)
 
 pub grown_feeds : (s : LeafStrategy) (sum : ℕ) (held c held' : Rows) (fed : Fed) → HasBlocks s → IsColumn (rows_len held) held → dtype_of c ≡ dtype_of held → IsColumn (rows_len c) c
-    → held' ≡ appended held c → cut_of s (appended held c) ≡ nothing_full 0 sum → columns_seen fed.chunks.items ≡ [] → fed.pending ≡ record { rows = None; gathered = sum } → Feeds s held c held' fed
+    → held' ≡ appended held c → cut_of s (appended held c) ≡ nothing_full 0 sum → chunks_seen fed.chunks ≡ [] → fed.pending ≡ record { rows = None; gathered = sum } → Feeds s held c held' fed
 grown_feeds s sum held c held' fed h k t l more none chunks is =
     let sound = sound_both held c t k l in
     let same : unwrap_or fed.pending.rows held' ≡ appended held c = ap (λ (x : Pending). unwrap_or x.rows held') is ∙ more in record {
@@ -157,7 +158,7 @@ grown_feeds s sum held c held' fed h k t l more none chunks is =
 
 -- rows that leave the last block as it is
 pub short_feeds : (rows g : ℕ) (target : Option ℕ) (held c held' : Rows) (fed : Fed) → Holds (Blocks rows target) held g → dtype_of c ≡ dtype_of held → IsColumn (rows_len c) c
-    → rows_len c < rows - rows_len held % rows → held' ≡ appended held (part 0 (rows_len c) c) → columns_seen fed.chunks.items ≡ [] → fed.pending ≡ record { rows = None; gathered = g }
+    → rows_len c < rows - rows_len held % rows → held' ≡ appended held (part 0 (rows_len c) c) → chunks_seen fed.chunks ≡ [] → fed.pending ≡ record { rows = None; gathered = g }
     → Feeds (Blocks rows target) held c held' fed
 short_feeds rows g target held c held' fed m t k less more none is =
     let within = blocks_within rows (rows_len held) m.blocks in
@@ -173,7 +174,7 @@ short_feeds rows g target held c held' fed m t k less more none is =
 -- rows that make the last block whole, and fill no chunk
 pub on_feeds : (rows g sum from : ℕ) (target : Option ℕ) (held c held' held'' : Rows) (fed : Fed) → Holds (Blocks rows target) held g → dtype_of c ≡ dtype_of held → IsColumn (rows_len c) c
     → from ≤ rows_len c → held' ≡ appended held (part 0 from c) → held'' ≡ appended held' (part from (rows_len c) c) → cut_of (Blocks rows target) (appended held c) ≡ nothing_full 0 sum
-    → columns_seen fed.chunks.items ≡ [] → fed.pending ≡ record { rows = None; gathered = sum } → Feeds (Blocks rows target) held c held'' fed
+    → chunks_seen fed.chunks ≡ [] → fed.pending ≡ record { rows = None; gathered = sum } → Feeds (Blocks rows target) held c held'' fed
 on_feeds rows g sum from target held c held' held'' fed m t k inside whole more none chunks is =
     grown_feeds (Blocks rows target) sum held c held'' fed m.blocks m.sound t k (all_come held c held' held'' from t m.sound k inside whole more) none chunks is
 
@@ -206,7 +207,7 @@ full_feeds rows g from end target held c held' x fed m t k ordered inside more i
 
 -- all rows
 pub whole_feeds : (g : ℕ) (held c held' : Rows) (fed : Fed) → Holds Whole held g → dtype_of c ≡ dtype_of held → IsColumn (rows_len c) c → held' ≡ appended held (part 0 (rows_len c) c)
-    → columns_seen fed.chunks.items ≡ [] → fed.pending ≡ record { rows = None; gathered = 0 } → Feeds Whole held c held' fed
+    → chunks_seen fed.chunks ≡ [] → fed.pending ≡ record { rows = None; gathered = 0 } → Feeds Whole held c held' fed
 whole_feeds g held c held' fed m t k more none is = grown_feeds Whole 0 held c held' fed tt m.sound t k (more ∙ ap (appended held) (whole_part c (rows_len c) refl k)) refl none is
 
 -- ---- what was gathered

@@ -24,6 +24,7 @@ pub mod RowsLemmas
 pub mod StreamLemmas
 pub mod StreamedLemmas
 pub mod BeginLemmas
+pub mod PartsLemmas
 pub mod FeedLemmas
 pub mod HoldingLemmas
 pub mod LeafLemmas

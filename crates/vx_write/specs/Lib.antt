@@ -3,6 +3,7 @@ pub mod Sinks
 pub mod Strategies
 pub mod Rules
 pub mod Cutting
+pub mod CutParts
 pub mod Gathering
 pub mod Leaves
 pub mod LeafCodes

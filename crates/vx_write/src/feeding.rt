@@ -3,11 +3,12 @@ ghost use Rattle.std.specs.Prelude.{◌≡◌, ◌+◌, ◌%◌, ◌≤◌, ◌�
 ghost use Rattle.vx_rows.specs.Rows.{Rows, column_view, rows_len, dtype_of, IsColumn};
 ghost use Rattle.vx_rows.specs.Parts.{part, appended};
 ghost use Rattle.vx_write.specs.declared.strategy.LeafStrategy.TheVariants.{Blocks, Whole};
-ghost use Rattle.vx_write.specs.Chunks.{columns_seen};
+ghost use Rattle.vx_write.specs.Chunks.{chunks_seen, last_seen};
 ghost use Rattle.vx_write.specs.Holding.{Holds};
 ghost use Rattle.vx_write.specs.Feeding.{StillThere, Feeds, FeedsFirst};
 
 use crate::LeafStrategy;
+use crate::chunks::{Chunks, Parts};
 use crate::cutting::cut_column;
 use crate::gathering::{Gathered, gather_behind};
 use crate::pending::Pending;
@@ -17,7 +18,7 @@ use vx_rows::{Column, GrowingColumn};
 /// Full chunks, and what is held back behind them.
 #[derive(Drop)]
 pub(crate) struct Fed {
-    pub(crate) chunks: Vec<Column>,
+    pub(crate) chunks: Chunks,
     pub(crate) pending: Pending,
 }
 
@@ -33,22 +34,26 @@ fn copy_from(alloc: Global, column: &Column, from: usize) -> Result<GrowingColum
     Ok(copy)
 }
 
-/// Cuts a column of which nothing was held back, behind chunks that are full. Only memory refuses.
+/// Cuts a column of which nothing was held back, behind a chunk that is full, where there is one. Only memory refuses.
 fn feed_first(
     alloc: Global,
     rows: usize,
     target: Option<u64>,
     column: &Column,
-    before: Vec<Column>,
+    first: Option<Column>,
 ) -> Result<Fed, AllocError>
     requires blocks { 1 ≤ rows }
     requires even { IsColumn (rows_len (column_view column.now)) (column_view column.now) }
-    ensures { IfOk result (FeedsFirst rows target (columns_seen before.items) (column_view column.now)) }
+    ensures { IfOk result (FeedsFirst rows target (last_seen first) (column_view column.now)) }
 {
-    let cut = cut_column(alloc, rows, target.unwrap_or(0), column, before)?;
+    let cut = cut_column(alloc, rows, target.unwrap_or(0), column)?;
     let held = copy_from(alloc, column, cut.start)?;
+    let others = Parts::new(alloc, column, cut.ends)?;
     Ok(Fed {
-        chunks: cut.chunks,
+        chunks: Chunks {
+            first,
+            others: Some(others),
+        },
         pending: Pending {
             rows: Some(held),
             gathered: cut.gathered,
@@ -71,12 +76,15 @@ fn feed_on(
     requires inside { from ≤ rows_len (column_view column.now) }
     ensures held { IfOk result (λ _. held.new ≡ appended held.old (part from (rows_len (column_view column.now)) (column_view column.now))) }
     ensures fed { IfOk result (λ fed. fed.pending ≡ record { rows = None; gathered = gathered }) }
-    ensures none { IfOk result (λ fed. columns_seen fed.chunks.items ≡ []) }
+    ensures none { IfOk result (λ fed. chunks_seen fed.chunks ≡ []) }
     ensures still { StillThere held.old held.new }
 {
     held.append(alloc, column, from, column.len())?;
     Ok(Fed {
-        chunks: Vec::new(alloc),
+        chunks: Chunks {
+            first: None,
+            others: None,
+        },
         pending: Pending {
             rows: None,
             gathered,
@@ -106,10 +114,9 @@ fn feed_full(
     ensures still { StillThere held.old held.new }
 {
     held.append(alloc, column, from, end)?;
-    let mut chunks = Vec::new(alloc);
-    chunks.push(held.column(alloc)?)?;
+    let first = held.column(alloc)?;
     let others = column.part(alloc, end, column.len())?;
-    let fed = feed_first(alloc, rows, target, &others, chunks)?;
+    let fed = feed_first(alloc, rows, target, &others, Some(first))?;
     Ok(fed)
 }
 
@@ -165,7 +172,7 @@ fn feed_blocks(
     ensures still { StillThere held.old held.new }
 {
     if held.len() == 0 {
-        return feed_first(alloc, rows, target, column, Vec::new(alloc));
+        return feed_first(alloc, rows, target, column, None);
     }
     if column.len() < rows - held.len() % rows {
         return feed_on(alloc, held, gathered, column, 0);

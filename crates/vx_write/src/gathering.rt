@@ -52,6 +52,10 @@ pub(crate) fn gather(
     let mut gathered = before;
     let mut at = from;
     for block in 0..(column.len() - from) / rows {
+        // A chunk that has enough bytes already is full with any block.
+        if target <= gathered {
+            return Ok(Gathered::Full(at + rows));
+        }
         let size = size_between(alloc, column, at, at + rows)?;
         at += rows;
         if is_full(target, gathered, size) {

@@ -7,11 +7,12 @@ ghost use Rattle.vx_rows.specs.ReadRows.{no_rows};
 ghost use Rattle.vx_write.specs.Strategies.{HasBlocks};
 ghost use Rattle.vx_write.specs.Cutting.{full_chunks, last_chunk};
 ghost use Rattle.vx_write.specs.Leaves.{leaf_type, grown_leaf, AllOfType};
-ghost use Rattle.vx_write.specs.Chunks.{columns_seen, last_seen};
+ghost use Rattle.vx_write.specs.Chunks.{chunks_seen, last_seen};
 ghost use Rattle.vx_write.specs.Holding.{IsHeld};
 ghost use Rattle.vx_write.specs.Feeding.{Feeds};
 
 use crate::LeafStrategy;
+use crate::chunks::Chunks;
 use crate::feeding::{Fed, feed_rows};
 use crate::pending::Pending;
 use std::alloc::{AllocError, Global};
@@ -128,12 +129,12 @@ impl HeldLeaf {
     }
 
     /// The chunks that are full with the rows of a column, which count once the push is settled. Only memory refuses.
-    pub(crate) fn feed(&mut self, alloc: Global, column: &Column) -> Result<Vec<Column>, AllocError>
+    pub(crate) fn feed(&mut self, alloc: Global, column: &Column) -> Result<Chunks, AllocError>
         requires typed { dtype_of (column_view column.now) ≡ leaf_type self.old.now }
         requires even { IsColumn (rows_len (column_view column.now)) (column_view column.now) }
-        ensures chunks { IfOk result (λ chunks. columns_seen chunks.items
+        ensures chunks { IfOk result (λ chunks. chunks_seen chunks
             ≡ full_chunks self.old.now.strategy (appended self.old.now.kept (column_view column.now))) }
-        ensures sound { IfOk result (λ chunks. AllOfType (leaf_type self.old.now) (columns_seen chunks.items)) }
+        ensures sound { IfOk result (λ chunks. AllOfType (leaf_type self.old.now) (chunks_seen chunks)) }
         ensures next { IfOk result (λ _. self.new.next ≡ grown_leaf self.old.now (column_view column.now)) }
         ensures still { self.new.now ≡ self.old.now }
     {

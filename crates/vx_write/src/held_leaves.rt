@@ -4,9 +4,10 @@ ghost use Rattle.vx_data.specs.Dtype.{dtype_view};
 ghost use Rattle.vx_rows.specs.Parts.{plain_size};
 ghost use Rattle.vx_write.specs.Plans.{plan_view, IsFor, leaves_of};
 ghost use Rattle.vx_write.specs.Leaves.{nows, nexts, filled, grown, rests, held_size, chunks_at, leaf_types, column_types, AreSound, AreChunks};
-ghost use Rattle.vx_write.specs.Chunks.{chunks_view, columns_seen, last_seen};
+ghost use Rattle.vx_write.specs.Chunks.{chunks_view, chunks_seen, columns_seen, last_seen};
 
 use crate::LeafStrategy;
+use crate::chunks::Chunks;
 use crate::held_leaf::HeldLeaf;
 use crate::new_leaves::add_leaves;
 use crate::plan::Plan;
@@ -20,7 +21,7 @@ use vx_rows::Column;
 #[derive(Drop)]
 pub(crate) struct LeafChunks {
     pub leaf: usize,
-    pub columns: Vec<Column>,
+    pub chunks: Chunks,
 }
 
 /// The leaves of a file, and the rows that are held back of each.
@@ -42,20 +43,15 @@ impl Model for HeldLeaves {
 
 /// Adds the chunks of a leaf.
 #[tactic(auto, using(crate::proofs::SendingLemmas::chunks_more))]
-fn push_chunks(
-    chunks: &mut Vec<LeafChunks>,
-    leaf: usize,
-    columns: Vec<Column>,
-) -> Result<(), AllocError>
-    ensures { OnOk result (chunks_view chunks.new.items ≡ chunks_view chunks.old.items ++ chunks_at leaf (columns_seen columns.items)) }
+fn push_chunks(all: &mut Vec<LeafChunks>, leaf: usize, chunks: Chunks) -> Result<(), AllocError>
+    ensures { OnOk result (chunks_view all.new.items ≡ chunks_view all.old.items ++ chunks_at leaf (chunks_seen chunks)) }
 {
-    chunks.push(LeafChunks { leaf, columns })?;
+    all.push(LeafChunks { leaf, chunks })?;
     Ok(())
 }
 
 /// Adds the last chunk of a leaf, if there is one.
 fn push_last(
-    alloc: Global,
     chunks: &mut Vec<LeafChunks>,
     leaf: usize,
     last: Option<Column>,
@@ -65,9 +61,11 @@ fn push_last(
     match last {
         None => Ok(()),
         Some(column) => {
-            let mut columns = Vec::new(alloc);
-            columns.push(column)?;
-            push_chunks(chunks, leaf, columns)?;
+            let last = Chunks {
+                first: Some(column),
+                others: None,
+            };
+            push_chunks(chunks, leaf, last)?;
             Ok(())
         }
     }
@@ -123,7 +121,7 @@ fn finish_each(alloc: Global, leaves: &mut Vec<HeldLeaf>) -> Result<Vec<LeafChun
         let leaf = &mut leaves[at];
         let taken = take(alloc, leaf)?;
         let last = taken.finish(alloc)?;
-        push_last(alloc, &mut chunks, at, last)?;
+        push_last(&mut chunks, at, last)?;
     }
     Ok(chunks)
 }

@@ -73,7 +73,7 @@ fn flat(alloc: Global, dtype: &DType, chunk: Numbered) -> Result<Layout, AllocEr
 fn flats(alloc: Global, dtype: &DType, chunks: &[Numbered]) -> Result<Vec<Layout>, AllocError>
     ensures { IfOk result (λ layouts. layouts.items ≡ map (flat_tree (dtype_view dtype.now)) chunks.now) }
 {
-    let mut layouts = Vec::new(alloc);
+    let mut layouts = Vec::with_capacity(alloc, chunks.len())?;
     for chunk in chunks {
         layouts.push(flat(alloc, dtype, *chunk)?)?;
     }

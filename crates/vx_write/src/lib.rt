@@ -4,6 +4,7 @@
 mod blocking;
 mod buffered_bytes;
 mod chunk_source;
+mod chunks;
 mod column_sizes;
 mod column_stats;
 mod counted;

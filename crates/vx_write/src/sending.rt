@@ -3,12 +3,13 @@ ghost use Rattle.std.specs.Prelude.{◌≡◌, ℕ, ◌<◌, ◌≤◌, ◌^◌,
 ghost use Rattle.vx_footer.specs.declared.write_error.WriteError.TheVariants.{WriteFault, OutOfMemory};
 ghost use Rattle.vx_rows.specs.Rows.{column_view, rows_len};
 ghost use Rattle.vx_rows.specs.Encoded.{is_permitted, array_bytes};
-ghost use Rattle.vx_write.specs.Chunks.{leaf_view, chunks_view};
-ghost use Rattle.vx_write.specs.Leaves.{ChunkRows, chunk_at};
+ghost use Rattle.vx_write.specs.Chunks.{leaf_view, chunks_view, last_seen};
+ghost use Rattle.vx_write.specs.Leaves.{ChunkRows, chunk_at, chunks_at};
 ghost use Rattle.vx_write.specs.Placed.{Place, Wrote, Failed, IsAlive};
 ghost use Rattle.vx_write.specs.Sending.{Coding, encoded_chunk, encoded_chunks, chunk_checks, chunks_checks, Going, Goes};
 ghost use Rattle.vx_write.specs.Taken.{SinkCause, Checked};
 
+use crate::chunks::Parts;
 use crate::held_leaves::LeafChunks;
 use crate::output::Output;
 use std::alloc::Global;
@@ -111,6 +112,59 @@ fn write_chunk<S: Sink>(
     }
 }
 
+/// Writes the chunk of a leaf that is made, where there is one, behind those before it.
+fn write_made<S: Sink>(
+    alloc: Global,
+    out: &mut S,
+    coding: &ChunkCoding,
+    output: &mut Output,
+    leaf: usize,
+    made: &Option<Column>,
+) -> Result<(), WriteError>
+    requires { IsAlive output.old }
+    ensures going { (p : Place) (all rest : List ChunkRows) (g : Option (List ℕ)) →
+        Going coding.now p all (chunks_at leaf (last_seen made.now) ++ rest) g output.old (S.state out.old).gained →
+        Goes coding.now p all rest g output.new (S.state out.new).gained result }
+    ensures alive { OnOk result (IsAlive output.new) }
+    ensures cause { SinkCause (S.state out.old) (S.state out.new) result }
+{
+    match made {
+        None => Ok(()),
+        Some(rows) => match write_chunk(alloc, out, coding, output, leaf, rows) {
+            Ok(()) => Ok(()),
+            Err(error) => Err(error),
+        },
+    }
+}
+
+/// Writes the chunks of a leaf that are parts of a column, each as it is cut, behind those before them.
+fn write_cut<S: Sink>(
+    alloc: Global,
+    out: &mut S,
+    coding: &ChunkCoding,
+    output: &mut Output,
+    leaf: usize,
+    parts: &Parts,
+) -> Result<(), WriteError>
+    requires { IsAlive output.old }
+    ensures going { (p : Place) (all rest : List ChunkRows) (g : Option (List ℕ)) →
+        Going coding.now p all (chunks_at leaf parts.now ++ rest) g output.old (S.state out.old).gained →
+        Goes coding.now p all rest g output.new (S.state out.new).gained result }
+    ensures cause { SinkCause (S.state out.old) (S.state out.new) result }
+{
+    for at in 0..parts.len() {
+        let rows = match parts.part(alloc, at) {
+            Ok(rows) => rows,
+            Err(_) => return Err(WriteError::OutOfMemory),
+        };
+        match write_chunk(alloc, out, coding, output, leaf, &rows) {
+            Ok(()) => {}
+            Err(error) => return Err(error),
+        }
+    }
+    Ok(())
+}
+
 /// Writes the chunks of a leaf, one behind the other, behind those before them.
 fn write_leaf<S: Sink>(
     alloc: Global,
@@ -127,14 +181,18 @@ fn write_leaf<S: Sink>(
         Goes coding.now p all rest g output.new (S.state out.new).gained result }
     ensures cause { SinkCause (S.state out.old) (S.state out.new) result }
 {
-    let columns = chunks.columns.as_slice();
-    for at in 0..columns.len() {
-        match write_chunk(alloc, out, coding, output, chunks.leaf, &columns[at]) {
-            Ok(()) => {}
-            Err(error) => return Err(error),
-        }
+    let leaf = chunks.leaf;
+    match write_made(alloc, out, coding, output, leaf, &chunks.chunks.first) {
+        Ok(()) => {}
+        Err(error) => return Err(error),
     }
-    Ok(())
+    match &chunks.chunks.others {
+        None => Ok(()),
+        Some(parts) => match write_cut(alloc, out, coding, output, leaf, parts) {
+            Ok(()) => Ok(()),
+            Err(error) => Err(error),
+        },
+    }
 }
 
 /// Writes the chunks of leaves, one behind the other, behind those before them.

@@ -33,7 +33,7 @@ use vx_rows::RunningStats;
 fn specs_of(alloc: Global, laid: &[Laid]) -> Result<Vec<SegmentSpec>, AllocError>
     ensures { IfOk result (λ specs. specs.items ≡ map (λ l. l.spec) laid.now) }
 {
-    let mut specs = Vec::new(alloc);
+    let mut specs = Vec::with_capacity(alloc, laid.len())?;
     for chunk in laid {
         specs.push(chunk.spec)?;
     }

@@ -3,7 +3,7 @@ use Rattle.vx_rows.specs.Rows.{column_view, rows_len}
 use Rattle.vx_rows.specs.Parts.{part, appended, plain_size}
 use Rattle.vx_write.specs.declared.feeding.Fed.{Fed}
 use Rattle.vx_write.specs.declared.strategy.LeafStrategy.TheVariants.{Blocks}
-use Rattle.vx_write.specs.Chunks.{columns_seen}
+use Rattle.vx_write.specs.Chunks.{chunks_seen}
 use Rattle.vx_write.specs.Feeding.{Feeds, FeedsFirst}
 use Rattle.vx_write.proofs.HoldingLemmas.{Found, found_is, full_feeds, on_feeds, ok_by, ok_by_three}
 use Rattle.vx_write.proofs.StillLemmas.{still_more, still_twice}
@@ -70,7 +70,7 @@ returns-in-Open-clause-fed c =
     (λ (fed : Fed). c.feed_on.new.held
     ≡ appended c.append.new.self (part (c.args.rows - c.len.result % c.args.rows) (rows_len (column_view c.args.column.now)) (column_view c.args.column.now)))
     (λ (fed : Fed). fed.pending ≡ record { rows = None; gathered = c.in-Open.sum })
-    (λ (fed : Fed). columns_seen fed.chunks.items ≡ [])
+    (λ (fed : Fed). chunks_seen fed.chunks ≡ [])
     (Feeds (Blocks c.args.rows c.args.target) c.args.held.now (column_view c.args.column.now) c.feed_on.new.held)
     (λ fed f k n. on_feeds c.args.rows c.args.gathered c.in-Open.sum (c.args.rows - c.len.result % c.args.rows) c.args.target c.args.held.now (column_view c.args.column.now) c.append.new.self c.feed_on.new.held fed
     c.requires.holds c.requires.typed c.requires.even enough c.in_ok-append.ensures.ok f is n k)

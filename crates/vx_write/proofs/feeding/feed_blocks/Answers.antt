@@ -1,9 +1,9 @@
-use Rattle.std.proofs.Common.{◌≡◌, ◌-◌, ◌%◌, ◌<◌, None, List, [], ◌∙◌, ap, sym, subst, arith}
-use Rattle.vx_rows.specs.Rows.{Rows, column_view, rows_len}
+use Rattle.std.proofs.Common.{◌≡◌, ◌-◌, ◌%◌, ◌<◌, None, [], ◌∙◌, ap, sym, arith}
+use Rattle.vx_rows.specs.Rows.{column_view, rows_len}
 use Rattle.vx_rows.specs.Parts.{part, appended}
 use Rattle.vx_write.specs.declared.feeding.Fed.{Fed}
 use Rattle.vx_write.specs.declared.strategy.LeafStrategy.TheVariants.{Blocks}
-use Rattle.vx_write.specs.Chunks.{columns_seen}
+use Rattle.vx_write.specs.Chunks.{chunks_seen}
 use Rattle.vx_write.specs.Feeding.{Feeds, FeedsFirst}
 use Rattle.vx_write.proofs.HoldingLemmas.{first_feeds, short_feeds, ok_by, ok_by_three}
 use Rattle.vx_write.proofs.feeding.feed_blocks.Goals as goal
@@ -12,10 +12,9 @@ pub returns-then-len-eq0-clause-fed : goal.returns-then-len-eq0-clause-fed
 returns-then-len-eq0-clause-fed c =
     let none : rows_len c.args.held.now ≡ 0 = sym c.len.ensures.value ∙ c.if-len-eq0.true in
     ok_by c.feed_first.result
-    (FeedsFirst c.args.rows c.args.target (columns_seen c.new.result.items) (column_view c.args.column.now))
+    (FeedsFirst c.args.rows c.args.target [] (column_view c.args.column.now))
     (Feeds (Blocks c.args.rows c.args.target) c.args.held.now (column_view c.args.column.now) c.args.held.now)
-    (λ fed f. first_feeds c.args.rows c.args.target c.args.held.now (column_view c.args.column.now) c.args.held.now fed c.requires.holds.blocks none c.requires.typed c.requires.holds.sound c.requires.even
-    (subst (λ (xs : List Rows). FeedsFirst c.args.rows c.args.target xs (column_view c.args.column.now) fed) (ap columns_seen c.new.ensures.items) f))
+    (λ fed f. first_feeds c.args.rows c.args.target c.args.held.now (column_view c.args.column.now) c.args.held.now fed c.requires.holds.blocks none c.requires.typed c.requires.holds.sound c.requires.even f)
     c.feed_first.ensures
 
 pub returns-then-len-rows-clause-fed : goal.returns-then-len-rows-clause-fed
@@ -27,7 +26,7 @@ returns-then-len-rows-clause-fed c =
     ok_by_three c.feed_on.result
     (λ (fed : Fed). c.feed_on.new.held ≡ appended c.args.held.now (part 0 (rows_len (column_view c.args.column.now)) (column_view c.args.column.now)))
     (λ (fed : Fed). fed.pending ≡ record { rows = None; gathered = c.args.gathered })
-    (λ (fed : Fed). columns_seen fed.chunks.items ≡ [])
+    (λ (fed : Fed). chunks_seen fed.chunks ≡ [])
     (Feeds (Blocks c.args.rows c.args.target) c.args.held.now (column_view c.args.column.now) c.feed_on.new.held)
     (λ fed f k n. short_feeds c.args.rows c.args.gathered c.args.target c.args.held.now (column_view c.args.column.now) c.feed_on.new.held fed
     c.requires.holds c.requires.typed c.requires.even less f n k)

@@ -3,8 +3,15 @@ use Rattle.std.specs.Prelude.{nat_le}
 use Rattle.vx_rows.specs.Rows.{column_view}
 use Rattle.vx_rows.specs.Parts.{part, plain_size}
 use Rattle.vx_write.specs.Gathering.{gathered_from}
-use Rattle.vx_write.proofs.GatherLemmas.{full_turn, open_turn, place_turn, last_turn}
+use Rattle.vx_write.proofs.GatherLemmas.{full_anyhow, full_turn, open_turn, place_turn, last_turn}
 use Rattle.vx_write.proofs.gathering.gather.Goals as goal
+
+pub returns-then-target-gathered-clause-value : goal.returns-then-target-gathered-clause-value
+returns-then-target-gathered-clause-value c =
+    let full = full_anyhow c.args.rows c.args.target (column_view c.args.column.now) c.loop-block.gathered c.loop-block.at c.if-target-gathered.true in
+    full_turn c.args.rows c.args.target (column_view c.args.column.now) c.loop-block.gathered c.loop-block.at c.loop-block.block ((c.len.result - c.args.from) / c.args.rows) _
+    c.loop-block-test.true full c.loop-block.invariant.same
+    ∙ ap (λ (n : ℕ). gathered_from c.args.rows c.args.target (column_view c.args.column.now) c.args.before c.args.from ((n - c.args.from) / c.args.rows)) c.len.ensures
 
 pub returns-then-is_full-clause-value : goal.returns-then-is_full-clause-value
 returns-then-is_full-clause-value c =

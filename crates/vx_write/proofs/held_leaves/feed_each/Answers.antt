@@ -1,5 +1,5 @@
 use Rattle.std.proofs.Common.{◌<◌, ◌≤◌, ◌∙◌, length, sym, rules, arith}
-use Rattle.vx_write.specs.Chunks.{chunks_view, columns_seen}
+use Rattle.vx_write.specs.Chunks.{chunks_view, chunks_seen}
 use Rattle.vx_write.proofs.LeavesLemmas.{ahead_set, now_set, as_many, typed_at, sound_at, filled_more, filled_end, chunks_sound, grown_more, grown_end}
 use Rattle.vx_write.proofs.held_leaves.feed_each.Goals as goal
 
@@ -42,10 +42,10 @@ loop-at-preserved c =
     let is = c.index_mut-leaf.ensures.value ∙ c.loop-at.invariant.others.same c.loop-at.at c.index_mut-leaf.result.now (omega arith) in record {
       others = ahead_set c.loop-at.at c.loop-at.leaves.items c.args.leaves.now.items c.feed.new.self c.loop-at.invariant.others;
       same = now_set c.loop-at.leaves.items c.loop-at.at c.index_mut-leaf.result.now c.feed.new.self c.index_mut-leaf.ensures.value c.in_ok-full.ensures.still ∙ c.loop-at.invariant.same;
-      full = filled_more c.args.leaves.now.items c.args.columns.now c.loop-at.at c.index_mut-leaf.result.now c.index-columns-at.result (chunks_view c.loop-at.chunks.items) (chunks_view c.push_chunks.new.chunks.items)
-          (columns_seen c.in_ok-full.full.items) below is inside c.index-columns-at.is c.in_ok-full.ensures.chunks c.in_ok-push_chunks.ensures
+      full = filled_more c.args.leaves.now.items c.args.columns.now c.loop-at.at c.index_mut-leaf.result.now c.index-columns-at.result (chunks_view c.loop-at.chunks.items) (chunks_view c.push_chunks.new.all.items)
+          (chunks_seen c.in_ok-full.full) below is inside c.index-columns-at.is c.in_ok-full.ensures.chunks c.in_ok-push_chunks.ensures
           ∙ c.loop-at.invariant.full;
-      sound = chunks_sound c.args.leaves.now.items c.loop-at.at c.index_mut-leaf.result.now (chunks_view c.loop-at.chunks.items) (chunks_view c.push_chunks.new.chunks.items) (columns_seen c.in_ok-full.full.items)
+      sound = chunks_sound c.args.leaves.now.items c.loop-at.at c.index_mut-leaf.result.now (chunks_view c.loop-at.chunks.items) (chunks_view c.push_chunks.new.all.items) (chunks_seen c.in_ok-full.full)
           below is c.loop-at.invariant.sound c.in_ok-full.ensures.sound c.in_ok-push_chunks.ensures;
       next = grown_more c.loop-at.leaves.items c.args.leaves.now.items c.args.columns.now c.loop-at.at c.index_mut-leaf.result.now c.feed.new.self c.index-columns-at.result here below is inside c.index-columns-at.is
           c.in_ok-full.ensures.next

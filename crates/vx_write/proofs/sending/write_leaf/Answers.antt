@@ -1,39 +1,39 @@
-use Rattle.std.proofs.Common.{◌≤◌, arith, rules, length, subst, ◌+◌}
-use Rattle.vx_rows.specs.Rows.{column_view}
-use Rattle.vx_write.specs.Leaves.{chunk_at}
+use Rattle.std.proofs.Common.{List, Option, ◌++◌, subst}
+use Rattle.vx_rows.specs.Rows.{Rows}
+use Rattle.vx_write.specs.Chunks.{parts_seen}
+use Rattle.vx_write.specs.Leaves.{chunks_at}
 use Rattle.vx_write.specs.Sending.{Going}
-use Rattle.vx_write.proofs.PlacedLemmas.{going_checks}
-use Rattle.vx_write.proofs.SendingLemmas.{left_of, turned, chunk_failed, chunk_step, leaf_end}
-use Rattle.vx_write.proofs.TakenLemmas.{calm_step, calm_of}
+use Rattle.vx_write.proofs.SendingLemmas.{made_first}
 use Rattle.vx_write.proofs.sending.write_leaf.Goals as goal
-
-pub loop-at-preserved : goal.loop-at-preserved
-loop-at-preserved g c =
-    let state = g.S.Sink.state in
-    record {
-      alive = c.in-Ok.ensures.ok.alive;
-      going = λ p all rest start going.
-          chunk_step c.args.coding.now p c.loop-at.output c.write_chunk.new.output all c.args.chunks.now.leaf c.as_slice-columns.result.now c.loop-at.at c.index-columns-at.result rest start
-          (state c.loop-at.out).gained (state c.write_chunk.new.out).gained (omega arith) c.index-columns-at.is (c.loop-at.invariant.going p all rest start going)
-          c.in-Ok.ensures.ok c.in-Ok.ensures.checked;
-      calm = calm_step (state c.args.out.now) (state c.loop-at.out) (state c.write_chunk.new.out) c.loop-at.invariant.calm (calm_of _ _ _ c.in-Ok.ensures.cause);
-    }
 
 pub returns-in-Err-clause-going : goal.returns-in-Err-clause-going
 returns-in-Err-clause-going g c p all rest start going =
-    let state = g.S.Sink.state in
-    let here = c.loop-at.invariant.going p all rest start going in (
-      chunk_failed c.args.coding.now p c.loop-at.output c.write_chunk.new.output all c.args.chunks.now.leaf c.as_slice-columns.result.now c.loop-at.at c.index-columns-at.result rest start
-          (state c.loop-at.out).gained (state c.write_chunk.new.out).gained (omega arith) c.index-columns-at.is here c.in-Err.ensures.err,
-      going_checks (Unit {0}) (Unit {0}) c.args.coding.now p c.loop-at.output all (left_of c.args.chunks.now.leaf c.as_slice-columns.result.now (c.loop-at.at + 1) rest) (chunk_at c.args.chunks.now.leaf (column_view c.index-columns-at.result))
-          start (state c.loop-at.out).gained c.in-Err.error
-          (turned c.args.coding.now p c.loop-at.output c.write_chunk.new.output all c.args.chunks.now.leaf c.as_slice-columns.result.now c.loop-at.at c.index-columns-at.result rest start
-          (state c.loop-at.out).gained (state c.write_chunk.new.out).gained (omega arith) c.index-columns-at.is here) c.in-Err.ensures.checked,
-    )
+    let w = c.args.chunks.now in
+    c.in-Err.ensures.going p all (chunks_at w.leaf (parts_seen w.chunks.others) ++ rest) start
+    (made_first c.args.coding.now p c.args.output.now all w rest start (g.S.Sink.state c.args.out.now).gained going)
 
-pub returns-clause-going : goal.returns-clause-going
-returns-clause-going g c p all rest start going =
+pub returns-in-None-clause-going : goal.returns-in-None-clause-going
+returns-in-None-clause-going g c p all rest start going =
     let state = g.S.Sink.state in
-    let past : length c.as_slice-columns.result.now ≤ c.loop-at.at = search rules in
-    subst (λ xs. Going c.args.coding.now p all xs start c.loop-at.output (state c.loop-at.out).gained)
-    (leaf_end c.args.chunks.now.leaf c.as_slice-columns.result.now c.loop-at.at rest past) (c.loop-at.invariant.going p all rest start going)
+    let w = c.args.chunks.now in
+    let then = c.in-Ok.ensures.going p all (chunks_at w.leaf (parts_seen w.chunks.others) ++ rest) start
+    (made_first c.args.coding.now p c.args.output.now all w rest start (state c.args.out.now).gained going) in
+    subst (λ (o : Option (List Rows)). Going c.args.coding.now p all (chunks_at w.leaf (parts_seen o) ++ rest) start c.write_made.new.output (state c.write_made.new.out).gained) c.in-None.is then
+
+pub returns-in-Ok-write_cut-clause-going : goal.returns-in-Ok-write_cut-clause-going
+returns-in-Ok-write_cut-clause-going g c p all rest start going =
+    let state = g.S.Sink.state in
+    let w = c.args.chunks.now in
+    let then = c.in-Ok.ensures.going p all (chunks_at w.leaf (parts_seen w.chunks.others) ++ rest) start
+    (made_first c.args.coding.now p c.args.output.now all w rest start (state c.args.out.now).gained going) in
+    c.in-Ok-write_cut.ensures.going p all rest start
+    (subst (λ (o : Option (List Rows)). Going c.args.coding.now p all (chunks_at w.leaf (parts_seen o) ++ rest) start c.write_made.new.output (state c.write_made.new.out).gained) c.in-Some.is then)
+
+pub returns-in-Err-write_cut-clause-going : goal.returns-in-Err-write_cut-clause-going
+returns-in-Err-write_cut-clause-going g c p all rest start going =
+    let state = g.S.Sink.state in
+    let w = c.args.chunks.now in
+    let then = c.in-Ok.ensures.going p all (chunks_at w.leaf (parts_seen w.chunks.others) ++ rest) start
+    (made_first c.args.coding.now p c.args.output.now all w rest start (state c.args.out.now).gained going) in
+    c.in-Err-write_cut.ensures.going p all rest start
+    (subst (λ (o : Option (List Rows)). Going c.args.coding.now p all (chunks_at w.leaf (parts_seen o) ++ rest) start c.write_made.new.output (state c.write_made.new.out).gained) c.in-Some.is then)
