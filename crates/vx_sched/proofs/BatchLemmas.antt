@@ -5,12 +5,10 @@ use Rattle.std.proofs.lemmas.List.{append-nil}
 use Rattle.std.proofs.Math.Logic.{⊎_elim}
 use Rattle.std.specs.List.{AllByRecursion, list_any}
 use Rattle.std.specs.BTreeMap.{is_at}
-use Rattle.std.specs.BTreeSet.{BTreeSet, contains}
-use Rattle.std.specs.Ordering.{nat_cmp}
 use Rattle.vx_sched.specs.Span.{Span, end_of, AllWithin}
 use Rattle.vx_sched.specs.Reads.{Known, read_at, waiting_at, polled_at, if_waiting, if_polled, is_waiting, is_polled}
 use Rattle.vx_sched.specs.Merging.{Merges, GathersIn, is_listed, is_in_order, is_in_order_after, is_before, first_offset, greatest_end}
-use Rattle.vx_sched.specs.Picks.{free_at}
+use Rattle.vx_sched.specs.Picks.{free_at, is_among}
 use Rattle.vx_sched.specs.Law.{IsSound}
 use Rattle.vx_sched.specs.Scheduling.{Scheduler, NonePolled, taken, all_taken, MergesNow, MergesInTurn}
 use Rattle.vx_sched.specs.declared.request.ReadRequest.{ReadRequest}
@@ -80,63 +78,63 @@ all_taken-push s [] span = refl
 all_taken-push s (t ∷ rest) span = all_taken-push (taken s t) rest span
 
 -- the spans of a batch so far, and the numbers of their reads
-pub record SoFar (s : Scheduler) (spans : List Span) (before : BTreeSet ℕ) (from : ℕ) : Type 0 where
+pub record SoFar (s : Scheduler) (spans : List Span) (before : List ℕ) (from : ℕ) : Type 0 where
   pub sound : IsSound s
   pub sound_now : IsSound (all_taken s spans)
   pub turn : (rest : List Span) → MergesInTurn (all_taken s spans) rest → MergesInTurn s (spans ++ rest)
-  pub others : (q : ℕ) → contains nat_cmp before q ≡ false → read_at (all_taken s spans).reads q ≡ read_at s.reads q
-  pub gone : (q : ℕ) → contains nat_cmp before q ≡ true → waiting_at (all_taken s spans).reads q ≡ None
-  pub past : (q : ℕ) → q < from → polled_at s.reads q ≡ true → contains nat_cmp before q ≡ true
+  pub others : (q : ℕ) → is_among before q ≡ false → read_at (all_taken s spans).reads q ≡ read_at s.reads q
+  pub gone : (q : ℕ) → is_among before q ≡ true → waiting_at (all_taken s spans).reads q ≡ None
+  pub past : (q : ℕ) → q < from → polled_at s.reads q ≡ true → is_among before q ≡ true
   pub distance : (all_taken s spans).distance ≡ s.distance
   pub limit : (all_taken s spans).limit ≡ s.limit
   pub alignment : (all_taken s spans).alignment ≡ s.alignment
 
 -- at first
-pub so_far-start : (s : Scheduler) (before : BTreeSet ℕ) → IsSound s → before.keys ≡ [] → SoFar s [] before 0
+pub so_far-start : (s : Scheduler) (before : List ℕ) → IsSound s → before ≡ [] → SoFar s [] before 0
 so_far-start s before sound e = record {
   sound = sound;
   sound_now = sound;
   turn = λ rest h. h;
   others = λ q h. refl;
-  gone = λ q h. cc (sym h ∙ ap (λ ks. list_any (is_at (nat_cmp q)) ks) e);
+  gone = λ q h. cc (sym h ∙ ap (λ (ns : List ℕ). is_among ns q) e);
   past = λ q h p. absurd (omega arith);
   distance = refl;
   limit = refl;
   alignment = refl;
 }
 
-module _ (s : Scheduler) (spans : List Span) (before : BTreeSet ℕ) (from : ℕ) (f : SoFar s spans before from) where
+module _ (s : Scheduler) (spans : List Span) (before : List ℕ) (from : ℕ) (f : SoFar s spans before from) where
   -- no polled read is left
-  pub so_far-none : ((q : ℕ) → from ≤ q → polled_at s.reads q ≡ true → contains nat_cmp before q ≡ true) → NonePolled (all_taken s spans).reads
-  so_far-none none q = at (contains nat_cmp before q) refl (polled_at s.reads q) refl
+  pub so_far-none : ((q : ℕ) → from ≤ q → polled_at s.reads q ≡ true → is_among before q ≡ true) → NonePolled (all_taken s spans).reads
+  so_far-none none q = at (is_among before q) refl (polled_at s.reads q) refl
     where
-      at : (b : Bool) → contains nat_cmp before q ≡ b → (p : Bool) → polled_at s.reads q ≡ p → polled_at (all_taken s spans).reads q ≡ false
+      at : (b : Bool) → is_among before q ≡ b → (p : Bool) → polled_at s.reads q ≡ p → polled_at (all_taken s spans).reads q ≡ false
       at true h p e = polled-none (read_at (all_taken s spans).reads q) (f.gone q h)
       at false h false e = ap if_polled (f.others q h) ∙ e
       at false h true e = absurd (⊎_elim (λ (l : q < from). cc (sym h ∙ f.past q l e)) (λ (g : from ≤ q). cc (sym h ∙ none q g e)) (cases_lt q from))
 
   -- what is free is what waits
   free-waits : (q : ℕ) → free_at s.reads before q ≡ waiting_at (all_taken s spans).reads q
-  free-waits q = at (contains nat_cmp before q) refl
+  free-waits q = at (is_among before q) refl
     where
-      at : (b : Bool) → contains nat_cmp before q ≡ b → cond (contains nat_cmp before q) None (waiting_at s.reads q) ≡ waiting_at (all_taken s spans).reads q
+      at : (b : Bool) → is_among before q ≡ b → cond (is_among before q) None (waiting_at s.reads q) ≡ waiting_at (all_taken s spans).reads q
       at true h = ap (λ b. cond b None (waiting_at s.reads q)) h ∙ sym (f.gone q h)
       at false h = ap (λ b. cond b None (waiting_at s.reads q)) h ∙ sym (ap if_waiting (f.others q h))
 
-  module _ (first : ReadRequest) (span : Span) (before' : BTreeSet ℕ)
+  module _ (first : ReadRequest) (span : Span) (before' : List ℕ)
       (found : polled_at s.reads first.id ≡ true)
-      (fresh : contains nat_cmp before first.id ≡ false)
-      (least : (q : ℕ) → from ≤ q → q < first.id → polled_at s.reads q ≡ true → contains nat_cmp before q ≡ true)
+      (fresh : is_among before first.id ≡ false)
+      (least : (q : ℕ) → from ≤ q → q < first.id → polled_at s.reads q ≡ true → is_among before q ≡ true)
       (merges : Merges s.distance s.limit s.alignment (free_at s.reads before) first.id span)
-      (numbers : (q : ℕ) → contains nat_cmp before' q ≡ (contains nat_cmp before q || is_listed span.reads q)) where
+      (numbers : (q : ℕ) → is_among before' q ≡ (is_among before q || is_listed span.reads q)) where
     -- polled reads before the next are taken
-    sooner : (q : ℕ) → q < first.id → polled_at s.reads q ≡ true → contains nat_cmp before q ≡ true
+    sooner : (q : ℕ) → q < first.id → polled_at s.reads q ≡ true → is_among before q ≡ true
     sooner q l p = ⊎_elim (λ (b : q < from). f.past q b p) (λ (g : from ≤ q). least q g l p) (cases_lt q from)
 
     least-now : (q : ℕ) → q < first.id → polled_at (all_taken s spans).reads q ≡ false
-    least-now q l = at (contains nat_cmp before q) refl (polled_at s.reads q) refl
+    least-now q l = at (is_among before q) refl (polled_at s.reads q) refl
       where
-        at : (b : Bool) → contains nat_cmp before q ≡ b → (p : Bool) → polled_at s.reads q ≡ p → polled_at (all_taken s spans).reads q ≡ false
+        at : (b : Bool) → is_among before q ≡ b → (p : Bool) → polled_at s.reads q ≡ p → polled_at (all_taken s spans).reads q ≡ false
         at true h p e = polled-none (read_at (all_taken s spans).reads q) (f.gone q h)
         at false h false e = ap if_polled (f.others q h) ∙ e
         at false h true e = cc (sym h ∙ sooner q l e)
@@ -156,24 +154,24 @@ module _ (s : Scheduler) (spans : List Span) (before : BTreeSet ℕ) (from : ℕ
       sound = f.sound;
       sound_now = subst IsSound (sym (all_taken-push s spans span)) (sound-taken (all_taken s spans) span f.sound_now merges-now);
       turn = λ rest h. rw append_assoc (f.turn (span ∷ rest) (merges-now, subst (λ t. MergesInTurn t rest) (all_taken-push s spans span) h));
-      others = λ q h. others q (or-false (contains nat_cmp before q) (is_listed span.reads q) (sym (numbers q) ∙ h));
-      gone = λ q h. gone q (is_listed span.reads q) refl (contains nat_cmp before q) refl (sym (numbers q) ∙ h);
-      past = λ q l p. numbers q ∙ or-true (contains nat_cmp before q) (is_listed span.reads q) (sooner q l p);
+      others = λ q h. others q (or-false (is_among before q) (is_listed span.reads q) (sym (numbers q) ∙ h));
+      gone = λ q h. gone q (is_listed span.reads q) refl (is_among before q) refl (sym (numbers q) ∙ h);
+      past = λ q l p. numbers q ∙ or-true (is_among before q) (is_listed span.reads q) (sooner q l p);
       distance = ap (λ (t : Scheduler). t.distance) (all_taken-push s spans span) ∙ f.distance;
       limit = ap (λ (t : Scheduler). t.limit) (all_taken-push s spans span) ∙ f.limit;
       alignment = ap (λ (t : Scheduler). t.alignment) (all_taken-push s spans span) ∙ f.alignment;
     }
       where
-        others : (q : ℕ) → (contains nat_cmp before q ≡ false) × (is_listed span.reads q ≡ false) → read_at (all_taken s (spans ++ span ∷ [])).reads q ≡ read_at s.reads q
+        others : (q : ℕ) → (is_among before q ≡ false) × (is_listed span.reads q ≡ false) → read_at (all_taken s (spans ++ span ∷ [])).reads q ≡ read_at s.reads q
         others q h = ap (λ (t : Scheduler). read_at t.reads q) (all_taken-push s spans span)
             ∙ read-taken (all_taken s spans) f.sound_now span q h.1 ∙ f.others q h.0
 
-        gone : (q : ℕ) (l : Bool) → is_listed span.reads q ≡ l → (b : Bool) → contains nat_cmp before q ≡ b → (contains nat_cmp before q || is_listed span.reads q) ≡ true → waiting_at (all_taken s (spans ++ span ∷ [])).reads q ≡ None
+        gone : (q : ℕ) (l : Bool) → is_listed span.reads q ≡ l → (b : Bool) → is_among before q ≡ b → (is_among before q || is_listed span.reads q) ≡ true → waiting_at (all_taken s (spans ++ span ∷ [])).reads q ≡ None
         gone q true e b c h = ap (λ (t : Scheduler). waiting_at t.reads q) (all_taken-push s spans span)
             ∙ listed-gone (all_taken s spans) span q f.sound_now e
         gone q false e true c h = ap (λ (t : Scheduler). waiting_at t.reads q) (all_taken-push s spans span)
             ∙ ap if_waiting (read-taken (all_taken s spans) f.sound_now span q e) ∙ f.gone q c
-        gone q false e false c h = absurd (clash (contains nat_cmp before q) (is_listed span.reads q) c e h)
+        gone q false e false c h = absurd (clash (is_among before q) (is_listed span.reads q) c e h)
           where
             clash : (a b : Bool) → a ≡ false → b ≡ false → (a || b) ≡ true → ⊥
             clash true b x y z = cc
@@ -181,5 +179,5 @@ module _ (s : Scheduler) (spans : List Span) (before : BTreeSet ℕ) (from : ℕ
             clash false false x y z = cc
 
 -- the spans so far merge in turn
-pub so_far-merge : (s : Scheduler) (spans : List Span) (before : BTreeSet ℕ) (from : ℕ) → SoFar s spans before from → MergesInTurn s spans
+pub so_far-merge : (s : Scheduler) (spans : List Span) (before : List ℕ) (from : ℕ) → SoFar s spans before from → MergesInTurn s spans
 so_far-merge s spans before from f = rw append-nil at (f.turn [] tt)

@@ -16,7 +16,7 @@ use Rattle.vx_sched.specs.Stored.{Read}
 use Rattle.vx_sched.specs.declared.read.Stage.{Stage}
 use Rattle.vx_sched.specs.declared.read.Stage.TheVariants.{Registered, Polled, InFlight, Resolved}
 use Rattle.vx_sched.specs.declared.read.Change.{Change}
-use Rattle.vx_sched.specs.declared.read.Change.TheVariants.{Poll, Cancel, Take, Resolve}
+use Rattle.vx_sched.specs.declared.read.Change.TheVariants.{Poll, Cancel, Take, Resolve, Settle}
 
 -- the waiting read of a number
 abbrev pub waiting_in : Entries → ℕ → Option ReadRequest
@@ -221,6 +221,10 @@ twice-stage Resolve r Polled = refl
 twice-stage Resolve r (InFlight _ _ true) = refl
 twice-stage Resolve r (InFlight _ _ false) = refl
 twice-stage Resolve r Resolved = refl
+twice-stage Settle r Registered = refl
+twice-stage Settle r Polled = refl
+twice-stage Settle r (InFlight _ _ _) = refl
+twice-stage Settle r Resolved = refl
 
 twice : (c : Change) (x : Option Read) → change_entry c (change_entry c x) ≡ change_entry c x
 twice c None = refl

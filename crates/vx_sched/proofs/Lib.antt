@@ -16,7 +16,12 @@ pub mod LawRuns
 pub mod BatchLemmas
 pub mod BitLemmas
 pub mod ChainLemmas
+pub mod SettleLemmas
 pub mod CallLemmas
+pub mod PlaceLemmas
+pub mod LaterLemmas
+pub mod TakenLemmas
+pub mod TreeLemmas
 pub mod PollLemmas
 pub mod AnswerLemmas
 pub mod NumberedLemmas

@@ -5,12 +5,10 @@ use Rattle.std.proofs.lemmas.Nat.Bits.{bit_at-zero}
 use Rattle.std.specs.List.{list_any, filter, AllByRecursion}
 use Rattle.vx_sched.specs.Merging.{is_listed}
 use Rattle.std.specs.BTreeMap.{is_at}
-use Rattle.std.specs.BTreeSet.{keys_between}
-use Rattle.std.specs.BTreeMap.Range.{range_contains}
-use Rattle.std.specs.declared.ops.Bound.TheVariants.{Included}
 use Rattle.std.specs.Ordering.{nat_cmp}
 use Rattle.vx_sched.specs.Span.{end_of}
-use Rattle.std.specs.List.Sorted.{IsStrictlySortedBy}
+use Rattle.std.specs.List.Sorted.{IsStrictlySortedBy, IsNonDecreasingBy}
+use Rattle.std.proofs.lemmas.List.Sorted.{IsNonDecreasingBy-short}
 use Rattle.std.specs.Map.{keys_of}
 use Rattle.std.proofs.lemmas.Map.Keys.{sorted_from_strictly_increasing}
 use Rattle.vx_sched.specs.Entries.{Entries, entry_at, waiting_among, if_waits, waits_in, polled_in, after}
@@ -19,15 +17,15 @@ use Rattle.vx_sched.specs.Reads.{Known, Reads, read_at, waiting_at, polled_at, i
 use Rattle.vx_sched.specs.Polls.{Words, has_room, is_raised, polls_in, stays_polled, AreMarked}
 use Rattle.vx_sched.specs.declared.read.ReadState.{ReadState}
 use Rattle.vx_sched.specs.declared.read.ReadState.TheVariants as state
-use Rattle.vx_sched.specs.Kept.{Has, IsKept, IsTable}
-use Rattle.vx_sched.specs.Places.{place_cmp, waits_at, stays_waiting}
+use Rattle.vx_sched.specs.Kept.{Has, HaveAll, Names, IsKept, IsTable}
+use Rattle.vx_sched.specs.Places.{place_cmp, offset_of, waits_at, stays_waiting}
 use Rattle.vx_sched.specs.declared.places.Places.{Places}
 use Rattle.vx_sched.specs.declared.request.ReadRequest.{ReadRequest}
 use Rattle.vx_sched.specs.Stored.{Read}
 use Rattle.vx_sched.specs.declared.read.Stage.{Stage}
 use Rattle.vx_sched.specs.declared.read.Stage.TheVariants.{Registered, Polled, InFlight, Resolved}
 use Rattle.vx_sched.specs.declared.read.Change.{Change}
-use Rattle.vx_sched.specs.declared.read.Change.TheVariants.{Poll, Cancel, Take, Resolve}
+use Rattle.vx_sched.specs.declared.read.Change.TheVariants.{Poll, Cancel, Take, Resolve, Settle}
 
 -- numbers by their order
 pub at-eq : (a b : ℕ) → is_at (nat_cmp a) b ≡ (a == b)
@@ -56,22 +54,17 @@ after-waits Resolve Polled h = cc
 after-waits Resolve (InFlight _ _ true) h = refl
 after-waits Resolve (InFlight _ _ false) h = refl
 after-waits Resolve Resolved h = refl
+after-waits Settle Registered h = cc
+after-waits Settle Polled h = cc
+after-waits Settle (InFlight _ _ _) h = refl
+after-waits Settle Resolved h = refl
 
--- what a place says, where its read changes
-tied-same : (w st e : Bool) → (w ≡ false → st ≡ false) → cond ((w && not st) && (e && true)) false (w && e) ≡ (st && e)
-tied-same true true true h = refl
-tied-same true true false h = refl
-tied-same true false true h = refl
-tied-same true false false h = refl
-tied-same false true e h = absurd (cc (h refl))
-tied-same false false true h = refl
-tied-same false false false h = refl
-
--- what a place says, where another read changes
-tied-other : (a e x : Bool) → cond (a && (e && false)) false x ≡ x
-tied-other true true x = refl
-tied-other true false x = refl
-tied-other false e x = refl
+-- a read that waits after a change did before
+waited : (w st e : Bool) → (w ≡ false → st ≡ false) → (st && e) ≡ true → (w && e) ≡ true
+waited true true e h k = k
+waited true false e h k = cc
+waited false true e h k = absurd (cc (h refl))
+waited false false e h k = k
 
 waits_at-put : (o : ℕ) (r : ReadRequest) (stage : Option Stage) → waits_at o (option_map (λ s. record { request = r; stage = s }) stage) ≡ (stays_waiting stage && (r.offset == o))
 waits_at-put o r None = refl
@@ -92,97 +85,61 @@ put-keeps P q r stage old y false here there h = there y h
 module _ (reads reads' : Entries) (places places' : Places) (longest : ℕ) (x : Read) (stage : Option Stage) (t : IsKept reads places longest) (sorted : IsStrictlySortedBy nat_cmp (keys_of reads'))
     (found : entry_at reads x.request.id ≡ Some x) (waits : waits_in x.stage ≡ false → stays_waiting stage ≡ false)
     (lookups : (q : ℕ) → entry_at reads' q ≡ cond (is_at (nat_cmp x.request.id) q) (option_map (λ s. record { request = x.request; stage = s }) stage) (entry_at reads q))
-    (placed : (k : ℕ × ℕ) (b : Bool) → Has places k b → Has places' k (cond ((waits_in x.stage && not (stays_waiting stage)) && is_at (place_cmp (x.request.offset, x.request.id)) k) false b)) where
+    (all : HaveAll places places') where
   -- the look-up of a number, by a test of numbers
   found-at : (q : ℕ) → entry_at reads' q ≡ cond (x.request.id == q) (option_map (λ s. record { request = x.request; stage = s }) stage) (entry_at reads q)
   found-at q = lookups q ∙ ap (λ b. cond b (option_map (λ s. record { request = x.request; stage = s }) stage) (entry_at reads q)) (at-eq x.request.id q)
 
-  tied-at : (o q : ℕ) (same : Bool) → (x.request.id == q) ≡ same
-      → cond ((waits_in x.stage && not (stays_waiting stage)) && is_at (place_cmp (x.request.offset, x.request.id)) (o, q)) false (waits_at o (entry_at reads q)) ≡ waits_at o (entry_at reads' q)
-  tied-at o q true e =
+  waited-at : (o q : ℕ) (same : Bool) → (x.request.id == q) ≡ same → waits_at o (entry_at reads' q) ≡ true → waits_at o (entry_at reads q) ≡ true
+  waited-at o q true e h =
       let q-is : x.request.id ≡ q = grind (arith, nat_tests) in
       let here : entry_at reads q ≡ Some x = subst (λ n. entry_at reads n ≡ Some x) q-is found in
-      ap (λ b. cond ((waits_in x.stage && not (stays_waiting stage)) && b) false (waits_at o (entry_at reads q))) (place-eq x.request.offset x.request.id o q)
-      ∙ ap (λ b. cond ((waits_in x.stage && not (stays_waiting stage)) && ((x.request.offset == o) && b)) false (waits_at o (entry_at reads q))) e
-      ∙ ap (λ (y : Option Read). cond ((waits_in x.stage && not (stays_waiting stage)) && ((x.request.offset == o) && true)) false (waits_at o y)) here
-      ∙ tied-same (waits_in x.stage) (stays_waiting stage) (x.request.offset == o) waits
-      ∙ sym (waits_at-put o x.request stage)
-      ∙ sym (ap (waits_at o) (found-at q ∙ ap (λ b. cond b (option_map (λ s. record { request = x.request; stage = s }) stage) (entry_at reads q)) e))
-  tied-at o q false e =
-      ap (λ b. cond ((waits_in x.stage && not (stays_waiting stage)) && b) false (waits_at o (entry_at reads q))) (place-eq x.request.offset x.request.id o q)
-      ∙ ap (λ b. cond ((waits_in x.stage && not (stays_waiting stage)) && ((x.request.offset == o) && b)) false (waits_at o (entry_at reads q))) e
-      ∙ tied-other (waits_in x.stage && not (stays_waiting stage)) (x.request.offset == o) (waits_at o (entry_at reads q))
-      ∙ sym (ap (waits_at o) (found-at q ∙ ap (λ b. cond b (option_map (λ s. record { request = x.request; stage = s }) stage) (entry_at reads q)) e))
+      let now : waits_at o (entry_at reads' q) ≡ (stays_waiting stage && (x.request.offset == o)) =
+      ap (waits_at o) (found-at q ∙ ap (λ b. cond b (option_map (λ s. record { request = x.request; stage = s }) stage) (entry_at reads q)) e) ∙ waits_at-put o x.request stage in
+      ap (waits_at o) here ∙ waited (waits_in x.stage) (stays_waiting stage) (x.request.offset == o) waits (sym now ∙ h)
+  waited-at o q false e h =
+      sym (ap (waits_at o) (found-at q ∙ ap (λ b. cond b (option_map (λ s. record { request = x.request; stage = s }) stage) (entry_at reads q)) e)) ∙ h
 
   -- a table stays one where a read in it changes its stage or goes
   pub changed-table : IsKept reads' places' longest
   changed-table = record {
     sorted = sorted;
-    tied = λ o q. subst (Has places' (o, q)) (tied-at o q (x.request.id == q) refl) (placed (o, q) (waits_at o (entry_at reads q)) (t.tied o q));
+    placed = λ o q h. all.has (o, q) (t.placed o q (waited-at o q (x.request.id == q) refl h));
+    rise = all.rise t.rise;
     keyed = λ q y h. put-keeps (λ n r. r.id ≡ n) q x.request stage (entry_at reads q) y (x.request.id == q) (λ e. grind (arith, nat_tests)) (t.keyed q) (sym (found-at q) ∙ h);
     small = λ q y h. put-keeps (λ n r. n < 2 ^ 64) q x.request stage (entry_at reads q) y (x.request.id == q) (λ e. let s = t.small x.request.id x found in grind (arith, nat_tests)) (t.small q) (sym (found-at q) ∙ h);
     long = λ q y h. put-keeps (λ n r. r.length ≤ longest) q x.request stage (entry_at reads q) y (x.request.id == q) (λ _. t.long x.request.id x found) (t.long q) (sym (found-at q) ∙ h);
     fits = λ q y h. put-keeps (λ n r. end_of r < 2 ^ 64) q x.request stage (entry_at reads q) y (x.request.id == q) (λ _. t.fits x.request.id x found) (t.fits q) (sym (found-at q) ∙ h);
   }
 
--- a place that was put in and taken out again
-pub placed-back : (places places' : Places) (p k : ℕ × ℕ) (b : Bool) → places'.is_kept ≡ places.is_kept → Has places p false → Has places k b
-    → ((x : Bool) → Has places k x → Has places' k (cond (is_at (place_cmp p) k) false (cond (is_at (place_cmp p) k) true x))) → Has places' k b
-placed-back places places' p k b same absent old taken = at (is_at (place_cmp p) k) refl
-  where
-    at : (t : Bool) → is_at (place_cmp p) k ≡ t → Has places' k b
-    at true e =
-        let both : ((p.0 == k.0) && (p.1 == k.1)) ≡ true = sym (place-eq p.0 p.1 k.0 k.1) ∙ e in
-        let first : p.0 ≡ k.0 = grind (arith, nat_tests) in
-        let second : p.1 ≡ k.1 = grind (arith, nat_tests) in
-        let gone : Has places (k.0, k.1) false = subst (λ n. Has places (k.0, n) false) second (subst (λ n. Has places (n, p.1) false) first absent) in
-        λ kept. subst (Has places' k) (ap (λ t. cond t false (cond t true false)) e) (taken false gone) kept ∙ sym (gone (sym same ∙ kept)) ∙ old (sym same ∙ kept)
-    at false e = subst (Has places' k) (ap (λ t. cond t false (cond t true b)) e) (taken b old)
-
--- a table whose entries and places are the same
+-- a table whose entries are the same, and that has all places
 pub same-table : (reads reads' : Entries) (places places' : Places) (longest : ℕ) → IsKept reads places longest → reads' ≡ reads
-    → ((k : ℕ × ℕ) (b : Bool) → Has places k b → Has places' k b) → IsKept reads' places' longest
-same-table reads reads' places places' longest t e same = rw e (record {
+    → HaveAll places places' → IsKept reads' places' longest
+same-table reads reads' places places' longest t e all = rw e (record {
   sorted = t.sorted;
-  tied = λ o q. same (o, q) (waits_at o (entry_at reads q)) (t.tied o q);
+  placed = λ o q h. all.has (o, q) (t.placed o q h);
+  rise = all.rise t.rise;
   keyed = t.keyed;
   small = t.small;
   long = t.long;
   fits = t.fits;
 })
 
--- nothing waits at the place of a new read
-pub fresh-place : (reads : Entries) (places : Places) (longest : ℕ) (r : ReadRequest) → IsKept reads places longest → entry_at reads r.id ≡ None → Has places (r.offset, r.id) false
-fresh-place reads places longest r t fresh = subst (Has places (r.offset, r.id)) (ap (waits_at r.offset) fresh) (t.tied r.offset r.id)
-
 module _ (reads reads' : Entries) (places places' : Places) (longest : ℕ) (r : ReadRequest) (t : IsKept reads places longest) (sorted : IsStrictlySortedBy nat_cmp (keys_of reads'))
     (fresh : entry_at reads r.id ≡ None) (number : r.id < 2 ^ 64) (ends : end_of r < 2 ^ 64)
     (lookups : (q : ℕ) → entry_at reads' q ≡ cond (is_at (nat_cmp r.id) q) (Some (record { request = r; stage = Registered })) (entry_at reads q))
-    (placed : (k : ℕ × ℕ) (b : Bool) → Has places k b → Has places' k (cond (is_at (place_cmp (r.offset, r.id)) k) true b)) where
+    (place : Has places' (r.offset, r.id)) (all : HaveAll places places') where
   added-at : (q : ℕ) → entry_at reads' q ≡ cond (r.id == q) (Some (record { request = r; stage = Registered })) (entry_at reads q)
   added-at q = lookups q ∙ ap (λ b. cond b (Some (record { request = r; stage = Registered })) (entry_at reads q)) (at-eq r.id q)
 
-  added-place : (e x : Bool) → x ≡ false → cond (e && true) true x ≡ e
-  added-place true x h = refl
-  added-place false x h = h
-
-  other-place : (e x : Bool) → cond (e && false) true x ≡ x
-  other-place true x = refl
-  other-place false x = refl
-
-  added-tied : (o q : ℕ) (same : Bool) → (r.id == q) ≡ same → cond (is_at (place_cmp (r.offset, r.id)) (o, q)) true (waits_at o (entry_at reads q)) ≡ waits_at o (entry_at reads' q)
-  added-tied o q true e =
+  added-placed : (o q : ℕ) (same : Bool) → (r.id == q) ≡ same → waits_at o (entry_at reads' q) ≡ true → Has places' (o, q)
+  added-placed o q true e h =
       let q-is : r.id ≡ q = grind (arith, nat_tests) in
-      let none : entry_at reads q ≡ None = subst (λ n. entry_at reads n ≡ None) q-is fresh in
-      ap (λ b. cond b true (waits_at o (entry_at reads q))) (place-eq r.offset r.id o q)
-      ∙ ap (λ b. cond ((r.offset == o) && b) true (waits_at o (entry_at reads q))) e
-      ∙ added-place (r.offset == o) (waits_at o (entry_at reads q)) (ap (waits_at o) none)
-      ∙ sym (ap (waits_at o) (added-at q ∙ ap (λ b. cond b (Some (record { request = r; stage = Registered })) (entry_at reads q)) e))
-  added-tied o q false e =
-      ap (λ b. cond b true (waits_at o (entry_at reads q))) (place-eq r.offset r.id o q)
-      ∙ ap (λ b. cond ((r.offset == o) && b) true (waits_at o (entry_at reads q))) e
-      ∙ other-place (r.offset == o) (waits_at o (entry_at reads q))
-      ∙ sym (ap (waits_at o) (added-at q ∙ ap (λ b. cond b (Some (record { request = r; stage = Registered })) (entry_at reads q)) e))
+      let now : (r.offset == o) ≡ true = sym (ap (waits_at o) (added-at q ∙ ap (λ b. cond b (Some (record { request = r; stage = Registered })) (entry_at reads q)) e)) ∙ h in
+      let o-is : r.offset ≡ o = grind (arith, nat_tests) in
+      subst (λ n. Has places' (o, n)) q-is (subst (λ m. Has places' (m, r.id)) o-is place)
+  added-placed o q false e h =
+      all.has (o, q) (t.placed o q (sym (ap (waits_at o) (added-at q ∙ ap (λ b. cond b (Some (record { request = r; stage = Registered })) (entry_at reads q)) e)) ∙ h))
 
   le-max : {m : ℕ} → m ≤ longest → m ≤ max longest r.length
   le-max h = omega arith
@@ -191,45 +148,17 @@ module _ (reads reads' : Entries) (places places' : Places) (longest : ℕ) (r :
   pub added-table : IsKept reads' places' (max longest r.length)
   added-table = record {
     sorted = sorted;
-    tied = λ o q. subst (Has places' (o, q)) (added-tied o q (r.id == q) refl) (placed (o, q) (waits_at o (entry_at reads q)) (t.tied o q));
+    placed = λ o q h. added-placed o q (r.id == q) refl h;
+    rise = all.rise t.rise;
     keyed = λ q y h. put-keeps (λ n s. s.id ≡ n) q r (Some Registered) (entry_at reads q) y (r.id == q) (λ e. grind (arith, nat_tests)) (t.keyed q) (sym (added-at q) ∙ h);
     small = λ q y h. put-keeps (λ n s. n < 2 ^ 64) q r (Some Registered) (entry_at reads q) y (r.id == q) (λ e. grind (arith, nat_tests)) (t.small q) (sym (added-at q) ∙ h);
     long = λ q y h. put-keeps (λ n s. s.length ≤ max longest r.length) q r (Some Registered) (entry_at reads q) y (r.id == q) (λ _. omega arith) (λ z k. le-max (t.long q z k)) (sym (added-at q) ∙ h);
     fits = λ q y h. put-keeps (λ n s. end_of s < 2 ^ 64) q r (Some Registered) (entry_at reads q) y (r.id == q) (λ _. ends) (t.fits q) (sym (added-at q) ∙ h);
   }
 
--- a place that is among those within bounds
-pub near-listed : (p : ℕ × ℕ → Bool) (o q : ℕ) → p (o, q) ≡ true → (keys : List (ℕ × ℕ)) → list_any (is_at (place_cmp (o, q))) keys ≡ true → list_any (λ n. n == q) (map (λ (k : ℕ × ℕ). k.1) (filter p keys)) ≡ true
-near-listed p o q inside [] h = cc
-near-listed p o q inside (k ∷ ks) h = at (is_at (place_cmp (o, q)) k) refl h (near-listed p o q inside ks)
-  where
-    or-right : (a b : Bool) → b ≡ true → (a || b) ≡ true
-    or-right true b h = refl
-    or-right false b h = h
-
-    skip : (b : Bool) → list_any (λ n. n == q) (map (λ (j : ℕ × ℕ). j.1) (filter p ks)) ≡ true → list_any (λ n. n == q) (map (λ (j : ℕ × ℕ). j.1) (cond b (k ∷ filter p ks) (filter p ks))) ≡ true
-    skip true h = or-right (k.1 == q) _ h
-    skip false h = h
-
-    here : (b : Bool) → b ≡ true → (k.1 == q) ≡ true → list_any (λ n. n == q) (map (λ (j : ℕ × ℕ). j.1) (cond b (k ∷ filter p ks) (filter p ks))) ≡ true
-    here true e h = ap (λ x. x || list_any (λ n. n == q) (map (λ (j : ℕ × ℕ). j.1) (filter p ks))) h
-    here false e h = cc
-
-    at : (b : Bool) → is_at (place_cmp (o, q)) k ≡ b → (b || list_any (is_at (place_cmp (o, q))) ks) ≡ true
-        → (list_any (is_at (place_cmp (o, q))) ks ≡ true → list_any (λ n. n == q) (map (λ (j : ℕ × ℕ). j.1) (filter p ks)) ≡ true)
-        → list_any (λ n. n == q) (map (λ (j : ℕ × ℕ). j.1) (filter p (k ∷ ks))) ≡ true
-    at true e h step =
-        let both : ((o == k.0) && (q == k.1)) ≡ true = sym (place-eq o q k.0 k.1) ∙ e in
-        let first : o ≡ k.0 = grind (arith, nat_tests) in
-        let second : q ≡ k.1 = grind (arith, nat_tests) in
-        let number : (k.1 == q) ≡ true = grind (arith, nat_tests) in
-        let kept : p (k.0, k.1) ≡ true = subst (λ n. p (k.0, n) ≡ true) second (subst (λ n. p (n, q) ≡ true) first inside) in
-        here (p k) kept number
-    at false e h step = skip (p k) (step h)
-
 -- a waiting read has its place
-pub waiting-placed : (reads : Entries) (places : Places) (longest : ℕ) → IsKept reads places longest → (id : ℕ) (r : ReadRequest) → waiting_in reads id ≡ Some r → Has places (r.offset, id) true
-waiting-placed reads places longest t id r h = subst (Has places (r.offset, id)) (at (entry_at reads id) h) (t.tied r.offset id)
+pub waiting-placed : (reads : Entries) (places : Places) (longest : ℕ) → IsKept reads places longest → (id : ℕ) (r : ReadRequest) → waiting_in reads id ≡ Some r → Has places (r.offset, id)
+waiting-placed reads places longest t id r h = t.placed r.offset id (at (entry_at reads id) h)
   where
     at : (x : Option Read) → if_waits x ≡ Some r → waits_at r.offset x ≡ true
     at None h = cc
@@ -255,13 +184,6 @@ waiting-id reads places longest t id r h = at (entry_at reads id) refl h
     at None e h = cc
     at (Some x) e h = one x e (waits_in x.stage) refl h
 
-waiting-small : (reads : Entries) (places : Places) (longest : ℕ) → IsKept reads places longest → (id : ℕ) (r : ReadRequest) → waiting_in reads id ≡ Some r → id < 2 ^ 64
-waiting-small reads places longest t id r h = at (entry_at reads id) refl h
-  where
-    at : (x : Option Read) → entry_at reads id ≡ x → if_waits x ≡ Some r → id < 2 ^ 64
-    at None e h = cc
-    at (Some x) e h = t.small id x e
-
 -- a waiting read is no longer than the longest
 waiting-long : (reads : Entries) (places : Places) (longest : ℕ) → IsKept reads places longest → (id : ℕ) (r : ReadRequest) → waiting_in reads id ≡ Some r → r.length ≤ longest
 waiting-long reads places longest t id r h = at (entry_at reads id) refl h
@@ -277,16 +199,12 @@ waiting-long reads places longest t id r h = at (entry_at reads id) refl h
         stage false k = cc
 
 -- the numbers of the waiting reads near a range
-pub near-complete : (reads : Entries) (places : Places) (longest left from right first : ℕ) (ids : List ℕ) → IsKept reads places longest → places.is_kept ≡ true
-    → first ≡ max from (left - longest)
-    → ids ≡ map (λ (k : ℕ × ℕ). k.1) (keys_between place_cmp (Included (first, 0)) (Included (right, 18446744073709551615)) places.set)
+pub near-complete : (reads : Entries) (places : Places) (longest left from right first : ℕ) (ids : List ℕ) → IsKept reads places longest → first ≡ max from (left - longest)
+    → Names places first right ids
     → (id : ℕ) (r : ReadRequest) → waiting_in reads id ≡ Some r → left ≤ end_of r → from ≤ r.offset → r.offset ≤ right → list_any (λ n. n == id) ids ≡ true
-near-complete reads places longest left from right first ids t kept f e id r h l o u =
-    let small = waiting-small reads places longest t id r h in
+near-complete reads places longest left from right first ids t f names id r h l o u =
     let long = waiting-long reads places longest t id r h in
-    let begins : first ≤ r.offset = omega arith in
-    let inside : range_contains place_cmp (Included (first, 0)) (Included (right, 18446744073709551615)) (r.offset, id) ≡ true = grind (arith, nat_tests) in
-    rw e (near-listed (range_contains place_cmp (Included (first, 0)) (Included (right, 18446744073709551615))) r.offset id inside places.set.keys (waiting-placed reads places longest t id r h kept))
+    names r.offset id (omega arith) u (waiting-placed reads places longest t id r h)
 
 -- without places, all numbers
 pub all-complete : (reads : Entries) (ids : List ℕ) → ids ≡ keys_of reads → (id : ℕ) (r : ReadRequest) → waiting_in reads id ≡ Some r → list_any (λ n. n == id) ids ≡ true
@@ -310,13 +228,13 @@ all-complete reads ids e id r h = rw e (at reads h)
 
 -- either way each waiting read near a range is named
 pub near-named : (reads : Entries) (places : Places) (longest left from right first : ℕ) (ids : List ℕ) → IsKept reads places longest → first ≡ max from (left - longest)
-    → (places.is_kept ≡ true → ids ≡ map (λ (k : ℕ × ℕ). k.1) (keys_between place_cmp (Included (first, 0)) (Included (right, 18446744073709551615)) places.set))
+    → (places.is_kept ≡ true → Names places first right ids)
     → (places.is_kept ≡ false → ids ≡ keys_of reads)
     → (id : ℕ) (r : ReadRequest) → waiting_in reads id ≡ Some r → left ≤ end_of r → from ≤ r.offset → r.offset ≤ right → list_any (λ n. n == id) ids ≡ true
 near-named reads places longest left from right first ids t f near all id r h l o u = at places.is_kept refl
   where
     at : (b : Bool) → places.is_kept ≡ b → list_any (λ n. n == id) ids ≡ true
-    at true e = near-complete reads places longest left from right first ids t e f (near e) id r h l o u
+    at true e = near-complete reads places longest left from right first ids t f (near e) id r h l o u
     at false e = all-complete reads ids (all e) id r h
 
 -- no waiting read lies where there is no room
@@ -457,10 +375,11 @@ found-some P reads id h None e = absurd (polled-waits reads id h (sym e))
 found-some P reads id h (Some r) e = tt
 
 -- a table without reads
-pub empty_table : (entries : Entries) (places : Places) (words : Words) → entries ≡ [] → places.set.keys ≡ [] → words ≡ [] → IsTable entries places 0 words
+pub empty_table : (entries : Entries) (places : Places) (words : Words) → entries ≡ [] → places.sorted.items ≡ [] → words ≡ [] → IsTable entries places 0 words
 empty_table entries places words e p w = subst (λ (es : Entries). IsTable es places 0 words) (sym e) (subst (λ (ws : Words). IsTable [] places 0 ws) (sym w) (record {
   kept = record {
-    tied = λ offset id _. ap (λ keys. list_any (is_at (place_cmp (offset, id))) keys) p;
+    placed = λ offset id h. cc;
+    rise = subst (IsNonDecreasingBy offset_of) (sym p) (IsNonDecreasingBy-short offset_of [] (omega arith));
     sorted = sorted_from_strictly_increasing [] (search rules);
     keyed = λ id x h. cc;
     small = λ id x h. cc;

@@ -12,7 +12,7 @@ use Rattle.vx_sched.specs.declared.read.ReadState.TheVariants as state
 use Rattle.vx_sched.specs.declared.read.Stage.{Stage}
 use Rattle.vx_sched.specs.declared.read.Stage.TheVariants.{Registered, Polled, InFlight, Resolved}
 use Rattle.vx_sched.specs.declared.read.Change.{Change}
-use Rattle.vx_sched.specs.declared.read.Change.TheVariants.{Poll, Cancel, Take, Resolve}
+use Rattle.vx_sched.specs.declared.read.Change.TheVariants.{Poll, Cancel, Take, Resolve, Settle}
 
 -- entries by number, in order
 abbrev pub Entries : Type 0
@@ -103,6 +103,10 @@ after Resolve Polled = Some Polled
 after Resolve (InFlight span size true) = None
 after Resolve (InFlight span size false) = Some Resolved
 after Resolve Resolved = Some Resolved
+after Settle Registered = Some Resolved
+after Settle Polled = Some Resolved
+after Settle (InFlight span size dropped) = Some (InFlight span size dropped)
+after Settle Resolved = Some Resolved
 
 -- the entries with the read of a number in this stage, or without it
 abbrev pub with_stage : Entries → ℕ → ReadRequest → Option Stage → Entries

@@ -1,5 +1,7 @@
 -- The places of waiting reads: their offsets and numbers.
-use Rattle.std.specs.Prelude.{◌≡◌, ℕ, ◌<◌, ◌^◌, ◌==◌, ◌&&◌, Bool, true, false, length, Option, Some, None, if◌then◌else◌}
+use Rattle.std.specs.Prelude.{◌≡◌, ℕ, ◌<◌, ◌^◌, ◌==◌, ◌&&◌, Bool, true, false, List, length, Option, Some, None, if◌then◌else◌}
+use Rattle.std.specs.List.{list_any}
+use Rattle.std.specs.BTreeMap.{is_at}
 use Rattle.std.specs.Ordering.{nat_cmp, ordering_then}
 use Rattle.std.specs.declared.cmp.Ordering.{Ordering}
 use Rattle.vx_sched.specs.Span.{end_of}
@@ -14,6 +16,18 @@ use Rattle.vx_sched.specs.declared.read.Stage.{Stage}
 -- the order of places
 abbrev pub place_cmp : ℕ × ℕ → ℕ × ℕ → Ordering
 place_cmp a b = ordering_then (nat_cmp a.0 b.0) (nat_cmp a.1 b.1)
+
+abbrev pub offset_of : ℕ × ℕ → ℕ
+offset_of place = place.0
+
+-- whether a place is among some
+abbrev pub has_place : List (ℕ × ℕ) → ℕ × ℕ → Bool
+has_place places place = list_any (is_at (place_cmp place)) places
+
+-- whether there is a read, and it waits
+abbrev pub if_waiting : Option Read → Bool
+if_waiting None = false
+if_waiting (Some x) = waits_in x.stage
 
 -- whether a read waits at an offset
 abbrev pub waits_at : ℕ → Option Read → Bool

@@ -1,17 +1,14 @@
 //! Making the spans of a batch.
-ghost use Rattle.std.specs.List.{list_any};
 ghost use Rattle.std.specs.Prelude.{◌≡◌, ℕ, ◌==◌, ◌<◌, ◌^◌, ◌||◌, ◌∷◌, [], Some, IfOk, OnOk};
-ghost use Rattle.std.specs.BTreeSet.{contains};
-ghost use Rattle.std.specs.Ordering.{nat_cmp};
 ghost use Rattle.vx_sched.specs.Span.{end_of};
-ghost use Rattle.vx_sched.specs.Merging.{Merges, is_listed, span_of};
+ghost use Rattle.vx_sched.specs.Merging.{Merges};
 ghost use Rattle.vx_sched.specs.Picks.{free_at};
 
 use crate::gather::{Rules, gather};
 use crate::table::Table;
+use crate::taken::Taken;
 use crate::{CoalescedRequest, ReadRequest};
 use std::alloc::{AllocError, Global};
-use std::collections::BTreeSet;
 
 /// The span of one read alone.
 pub fn lone(alloc: Global, first: ReadRequest) -> Result<CoalescedRequest, AllocError>
@@ -35,7 +32,7 @@ pub fn lone(alloc: Global, first: ReadRequest) -> Result<CoalescedRequest, Alloc
 pub fn gathered(
     alloc: Global,
     table: &Table,
-    before: &BTreeSet<u64>,
+    before: &Taken,
     rules: &Rules,
     first: ReadRequest,
 ) -> Result<CoalescedRequest, AllocError>
@@ -50,35 +47,4 @@ pub fn gathered(
     let end = picks.high;
     let reads = picks.into_reads(alloc)?;
     Ok(CoalescedRequest::within(start, end, alignment, reads))
-}
-
-/// The numbers of reads, in order.
-fn sorted_numbers(alloc: Global, reads: &[ReadRequest]) -> Result<Vec<u64>, AllocError>
-    ensures { IfOk result (λ numbers. (q : ℕ) → list_any (λ n. n == q) numbers.items ≡ is_listed reads.now q) }
-{
-    let mut numbers = Vec::with_capacity(alloc, reads.len())?;
-    for read in reads {
-        numbers.push(read.id)?;
-    }
-    numbers.sort_unstable();
-    Ok(numbers)
-}
-
-/// Adds the numbers of reads, in order, since a tree takes them fastest so.
-pub fn add_numbers(
-    alloc: Global,
-    numbers: &mut BTreeSet<u64>,
-    reads: &[ReadRequest],
-) -> Result<(), AllocError>
-    ensures { OnOk result ((q : ℕ) → contains nat_cmp numbers.new q
-        ≡ (contains nat_cmp numbers.old q || is_listed reads.now q)) }
-{
-    if let [read] = reads {
-        numbers.insert(read.id)?;
-        return Ok(());
-    }
-    for number in sorted_numbers(alloc, reads)? {
-        numbers.insert(number)?;
-    }
-    Ok(())
 }

@@ -4,18 +4,20 @@
 //! and begin at or before the second, in order of offset and number: it picks each that does not make
 //! the range too long. Passes go on until the bounds stay. A read that was looked at is picked, or was
 //! too long and stays so as the range grows, so a pass looks only at what earlier ones did not.
-ghost use Rattle.std.specs.Prelude.{◌≡◌, ◌+◌, ◌-◌, ◌<◌, ◌≤◌, ◌^◌, ◌∷◌, [], true, false, Some, max, min, IfOk, IfSome, OnOk};
-ghost use Rattle.std.specs.BTreeMap.{insert_entry, values};
+ghost use Rattle.std.specs.Prelude.{◌≡◌, ◌+◌, ◌-◌, ◌<◌, ◌≤◌, ◌^◌, ◌∷◌, [], true, false, Some, max, min, IfOk, IfSome, OnOk, is_some, if◌then◌else◌};
+ghost use Rattle.std.specs.BTreeMap.{insert_entry, is_at, values};
+ghost use Rattle.std.specs.Map.{lookup};
 ghost use Rattle.vx_sched.specs.Reads.{waiting_at};
 ghost use Rattle.vx_sched.specs.Span.{end_of};
-ghost use Rattle.vx_sched.specs.Merging.{is_before, is_listed, aligned_size, IsTooLong, IsWithinLimit};
+ghost use Rattle.vx_sched.specs.Merging.{is_before, is_in_order, is_listed, aligned_size, IsTooLong, IsWithinLimit};
 ghost use Rattle.vx_sched.specs.Places.{place_cmp, AllFit};
-ghost use Rattle.vx_sched.specs.Picks.{IsPicked, PickedMore, IsLookedAt, AreLookedAt, IsClosed, free_at};
+ghost use Rattle.vx_sched.specs.Picks.{ArePlaced, AreUpTo, SamePicks, IsAhead, entries_of, reads_of, IsPicked, PickedMore, IsLookedAt, AreLookedAt, IsClosed, free_at};
 
 use crate::ReadRequest;
 use crate::table::Table;
+use crate::taken::Taken;
 use std::alloc::{AllocError, Global};
-use std::collections::{BTreeMap, BTreeSet};
+use std::collections::BTreeMap;
 use vx_base::Alignment;
 
 /// How far apart reads may lie, how long a span may be, and to what its start is aligned.
@@ -26,10 +28,13 @@ pub struct Rules {
     pub alignment: Alignment,
 }
 
-/// The reads that were picked so far, by offset and number, the first offset and the greatest end.
+/// The reads that were picked so far, by offset and number, of which those that came behind all others stand apart;
+/// the last of them; the first offset and the greatest end.
 #[derive(Drop)]
 pub struct Picks {
     pub reads: BTreeMap<(u64, u64), ReadRequest>,
+    pub later: Vec<ReadRequest>,
+    pub last: ReadRequest,
     pub low: u64,
     pub high: u64,
 }
@@ -63,19 +68,53 @@ fn is_too_long(rules: &Rules, low: u64, high: u64, read: &ReadRequest) -> bool
     end.saturating_sub(start) > limit
 }
 
+/// The reads of a map, in order, with room for so many more.
+fn values_with_room(
+    alloc: Global,
+    picked: BTreeMap<(u64, u64), ReadRequest>,
+    more: usize,
+) -> Result<Vec<ReadRequest>, AllocError>
+    ensures { IfOk result (λ v. v.items ≡ values picked) }
+{
+    let mut reads = Vec::with_capacity(alloc, picked.len().saturating_add(more))?;
+    for read in picked.into_values() {
+        reads.push(read)?;
+    }
+    Ok(reads)
+}
+
+/// Whether a read comes before others in order.
+fn is_ahead(reads: &[ReadRequest], read: &ReadRequest) -> bool
+    ensures { result ≡ true → IsAhead reads.now read.now }
+{
+    match reads.first() {
+        Some(first) => comes_before(read, first),
+        None => true,
+    }
+}
+
 impl Picks {
     /// The picks that begin with one read.
     fn first(alloc: Global, read: ReadRequest) -> Result<Picks, AllocError>
         requires { end_of read < 2 ^ 64 }
-        ensures reads { IfOk result (λ p. p.reads.entries ≡ ((read.offset, read.id), read) ∷ []) }
+        ensures reads { IfOk result (λ p. entries_of p ≡ ((read.offset, read.id), read) ∷ []) }
+        ensures last { IfOk result (λ p. p.last ≡ read) }
         ensures low { IfOk result (λ p. p.low ≡ read.offset) }
         ensures high { IfOk result (λ p. p.high ≡ end_of read) }
     {
         let low = read.offset;
         let high = low + read.length as u64;
+        let last = read;
+        let later = Vec::new(alloc);
         let mut reads = BTreeMap::new(alloc);
         reads.insert((low, read.id), read)?;
-        Ok(Picks { reads, low, high })
+        Ok(Picks {
+            reads,
+            later,
+            last,
+            low,
+            high,
+        })
     }
 
     /// The bounds at the distance of the picks.
@@ -91,26 +130,95 @@ impl Picks {
 
     /// The picked reads, in order.
     pub fn into_reads(self, alloc: Global) -> Result<Vec<ReadRequest>, AllocError>
-        ensures { IfOk result (λ v. v.items ≡ values self.reads) }
+        ensures { IfOk result (λ v. v.items ≡ reads_of self) }
     {
-        let mut reads = Vec::with_capacity(alloc, self.reads.len())?;
-        for read in self.reads.into_values() {
-            reads.push(read)?;
-        }
+        let mut reads = values_with_room(alloc, self.reads, self.later.len())?;
+        let mut later = self.later;
+        reads.append(&mut later)?;
         Ok(reads)
+    }
+
+    /// Puts those that stand apart to the others.
+    fn gather_all(&mut self) -> Result<(), AllocError>
+        requires placed { ArePlaced (entries_of self.old) }
+        requires order { is_in_order (reads_of self.old) ≡ true }
+        ensures same { OnOk result (SamePicks self.old self.new) }
+        ensures none { OnOk result (self.new.later.items ≡ []) }
+    {
+        for at in 0..self.later.len() {
+            let read = self.later[at];
+            self.reads.insert((read.offset, read.id), read)?;
+        }
+        self.later.clear();
+        Ok(())
+    }
+
+    /// Makes way for a read: none that stands apart comes before it.
+    fn make_way(&mut self, read: &ReadRequest) -> Result<(), AllocError>
+        requires placed { ArePlaced (entries_of self.old) }
+        requires order { is_in_order (reads_of self.old) ≡ true }
+        ensures same { OnOk result (SamePicks self.old self.new) }
+        ensures ahead { OnOk result (IsAhead self.new.later.items read.now) }
+    {
+        if is_ahead(self.later.as_slice(), read) {
+            return Ok(());
+        }
+        self.gather_all()?;
+        Ok(())
+    }
+
+    /// Whether a read was picked.
+    fn holds(&mut self, read: &ReadRequest) -> Result<bool, AllocError>
+        requires placed { ArePlaced (entries_of self.old) }
+        requires order { is_in_order (reads_of self.old) ≡ true }
+        requires last { AreUpTo self.old.last (reads_of self.old) }
+        ensures same { OnOk result (SamePicks self.old self.new) }
+        ensures holds { IfOk result (λ holds. holds
+            ≡ is_some (lookup (is_at (place_cmp (read.now.offset, read.now.id))) (entries_of self.old))) }
+    {
+        if comes_before(&self.last, read) {
+            return Ok(false);
+        }
+        self.make_way(read)?;
+        Ok(self.reads.contains_key(&(read.offset, read.id)))
+    }
+
+    /// Puts a read that was not picked in its place.
+    fn put(&mut self, read: ReadRequest) -> Result<(), AllocError>
+        requires placed { ArePlaced (entries_of self.old) }
+        requires order { is_in_order (reads_of self.old) ≡ true }
+        requires last { AreUpTo self.old.last (reads_of self.old) }
+        ensures reads { OnOk result (entries_of self.new
+            ≡ insert_entry place_cmp (entries_of self.old) (read.offset, read.id) read) }
+        ensures last { OnOk result (self.new.last ≡ (if is_before self.old.last read then read else self.old.last)) }
+        ensures low { OnOk result (self.new.low ≡ self.old.low) }
+        ensures high { OnOk result (self.new.high ≡ self.old.high) }
+    {
+        if comes_before(&self.last, &read) {
+            self.later.push(read)?;
+            self.last = read;
+            return Ok(());
+        }
+        self.make_way(&read)?;
+        self.reads.insert((read.offset, read.id), read)?;
+        Ok(())
     }
 
     /// Adds a read.
     fn add(&mut self, read: ReadRequest) -> Result<(), AllocError>
-        requires { end_of read < 2 ^ 64 }
-        ensures reads { OnOk result (self.new.reads.entries
-            ≡ insert_entry place_cmp self.old.reads.entries (read.offset, read.id) read) }
+        requires fits { end_of read < 2 ^ 64 }
+        requires placed { ArePlaced (entries_of self.old) }
+        requires order { is_in_order (reads_of self.old) ≡ true }
+        requires last { AreUpTo self.old.last (reads_of self.old) }
+        ensures reads { OnOk result (entries_of self.new
+            ≡ insert_entry place_cmp (entries_of self.old) (read.offset, read.id) read) }
+        ensures last { OnOk result (self.new.last ≡ (if is_before self.old.last read then read else self.old.last)) }
         ensures low { OnOk result (self.new.low ≡ min self.old.low read.offset) }
         ensures high { OnOk result (self.new.high ≡ max self.old.high (end_of read)) }
     {
         let low = self.low.min(read.offset);
         let high = self.high.max(read.offset + read.length as u64);
-        self.reads.insert((read.offset, read.id), read)?;
+        self.put(read)?;
         self.low = low;
         self.high = high;
         Ok(())
@@ -120,7 +228,7 @@ impl Picks {
     fn look(
         &mut self,
         table: &Table,
-        before: &BTreeSet<u64>,
+        before: &Taken,
         rules: &Rules,
         bounds: Bounds,
         read: ReadRequest,
@@ -134,14 +242,14 @@ impl Picks {
         ensures more { OnOk result (PickedMore self.old self.new) }
         ensures looked { OnOk result (IsLookedAt rules.now table.now before.now bounds.left 0 bounds.right self.new read.id) }
     {
-        if before.contains(&read.id) {
+        if before.contains(read.id) {
             return Ok(());
         }
         let end = read.offset + read.length as u64;
         if end < bounds.left || read.offset > bounds.right {
             return Ok(());
         }
-        if self.reads.contains_key(&(read.offset, read.id)) {
+        if self.holds(&read)? {
             return Ok(());
         }
         if is_too_long(rules, self.low, self.high, &read) {
@@ -156,7 +264,7 @@ impl Picks {
 fn look_between(
     alloc: Global,
     table: &Table,
-    before: &BTreeSet<u64>,
+    before: &Taken,
     rules: &Rules,
     bounds: Bounds,
     from: u64,
@@ -181,7 +289,7 @@ fn look_between(
 fn look_before(
     alloc: Global,
     table: &Table,
-    before: &BTreeSet<u64>,
+    before: &Taken,
     rules: &Rules,
     left: u64,
     seen: Bounds,
@@ -210,7 +318,7 @@ fn look_before(
 fn look_after(
     alloc: Global,
     table: &Table,
-    before: &BTreeSet<u64>,
+    before: &Taken,
     rules: &Rules,
     seen: Bounds,
     right: u64,
@@ -239,7 +347,7 @@ fn look_after(
 fn pass(
     alloc: Global,
     table: &Table,
-    before: &BTreeSet<u64>,
+    before: &Taken,
     rules: &Rules,
     seen: Bounds,
     bounds: Bounds,
@@ -268,7 +376,7 @@ fn pass(
 pub fn gather(
     alloc: Global,
     table: &Table,
-    before: &BTreeSet<u64>,
+    before: &Taken,
     rules: &Rules,
     first: ReadRequest,
 ) -> Result<Picks, AllocError>
@@ -276,7 +384,7 @@ pub fn gather(
     requires fits { end_of first < 2 ^ 64 }
     ensures picked { IfOk result (λ p. IsPicked rules.now table.now before.now p) }
     ensures closed { IfOk result (λ p. IsClosed rules.now table.now before.now p) }
-    ensures listed { IfOk result (λ p. is_listed (values p.reads) first.id ≡ true) }
+    ensures listed { IfOk result (λ p. is_listed (reads_of p) first.id ≡ true) }
 {
     let mut picks = Picks::first(alloc, first)?;
     let mut seen = picks.near(rules);

@@ -21,6 +21,7 @@ mod request;
 mod span;
 mod state;
 mod table;
+mod taken;
 
 pub use asking::{ask, ask_size};
 pub use counts::Counts;

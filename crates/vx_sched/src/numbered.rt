@@ -8,7 +8,7 @@ ghost use Rattle.std.specs.BTreeMap.{insert_entry, is_at};
 ghost use Rattle.std.specs.Map.{keys_of, lookup, remove_entry};
 ghost use Rattle.std.specs.Ordering.{nat_cmp};
 ghost use Rattle.vx_sched.specs.Numbered.{held, is_full, RiseFrom, IsGap, IsSlot};
-ghost use Rattle.std.specs.List.{filter};
+ghost use Rattle.std.specs.List.{filter, insert};
 ghost use Rattle.vx_sched.specs.declared.numbered.Slot.{Slot};
 
 use std::alloc::{AllocError, Global};
@@ -117,6 +117,22 @@ fn set_value<V: Copy>(slots: &mut Vec<Slot<V>>, at: usize, value: Option<V>)
     slots[at] = Slot { number, value };
 }
 
+/// Puts a slot at a place. Only memory refuses.
+fn add_slot<V: Copy>(slots: &mut Vec<Slot<V>>, at: usize, slot: Slot<V>) -> Result<(), AllocError>
+    requires { at ≤ length slots.old.items }
+    ensures ok { OnOk result (slots.new.items ≡ insert slots.old.items at slot) }
+    ensures err { OnErr result (slots.new.items ≡ slots.old.items) }
+{
+    if at == slots.len() {
+        slots.push(slot)?;
+        return Ok(());
+    }
+    let Ok(()) = slots.insert(at, slot) else {
+        return Err(AllocError);
+    };
+    Ok(())
+}
+
 /// Takes the empty slots away.
 fn pack<V: Copy>(slots: &mut Vec<Slot<V>>)
     ensures { slots.new.items ≡ filter is_full slots.old.items }
@@ -160,7 +176,7 @@ impl<V: Copy> Numbered<V> {
             }
             Err(at) => {
                 let value = Some(value);
-                let Ok(()) = self.slots.insert(at, Slot { number, value }) else {
+                let Ok(()) = add_slot(&mut self.slots, at, Slot { number, value }) else {
                     return Err(AllocError);
                 };
                 Ok(())

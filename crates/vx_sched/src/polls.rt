@@ -155,9 +155,12 @@ impl Polls {
         ensures kept { (n : ℕ) → has_room self.old n ≡ true → has_room self.new n ≡ true }
     {
         let block = number / 64;
+        let had_polled = word_of(&self.words, block) != 0;
         set_bit(&mut self.words, number, is_polled);
         let has_polled = word_of(&self.words, block) != 0;
-        set_bit(&mut self.groups, block, has_polled);
+        if has_polled != had_polled {
+            set_bit(&mut self.groups, block, has_polled);
+        }
     }
 
     /// The least polled number from one on.

@@ -161,6 +161,8 @@ pub enum Change {
     Cancel,
     Take { span: u64, size: usize },
     Resolve,
+    /// It is taken and resolved at once.
+    Settle,
 }
 
 /// The stage of a read after a change, or that it is gone.
@@ -195,6 +197,7 @@ pub fn stage_after(change: Change, stage: Stage) -> Option<Stage>
                 dropped,
             },
         ) => { if dropped { None } else { Some(Stage::Resolved) } }
+        (Change::Settle, Stage::Registered | Stage::Polled) => Some(Stage::Resolved),
         _ => Some(stage),
     }
 }

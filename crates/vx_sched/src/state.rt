@@ -10,14 +10,14 @@ ghost use Rattle.vx_sched.specs.Scheduling.{SameSettings, span_at, IsInFlight, A
 ghost use Rattle.vx_sched.specs.Chain.{waiting_after, polled_after, IsLeft};
 ghost use Rattle.vx_sched.specs.declared.read.ReadState.TheVariants.{Polled};
 
-use crate::batching::{add_numbers, gathered, lone};
+use crate::batching::{gathered, lone};
 use crate::flying::greatest_end_of;
 use crate::gather::Rules;
 use crate::read::ReadState;
 use crate::table::Table;
+use crate::taken::Taken;
 use crate::{CoalescedRequest, Counts, ReadEvent, ReadRequest};
 use std::alloc::{AllocError, Global};
-use std::collections::BTreeSet;
 use std::marker::Model;
 use vx_base::Alignment;
 
@@ -146,11 +146,19 @@ impl State {
         self.table.cancel(id);
     }
 
+    /// Makes ready for a batch: one that comes after this call finds the reads near a span fast. Only memory refuses.
+    pub fn arrange(&mut self) -> Result<(), AllocError>
+        ensures { self.new ≡ self.old }
+    {
+        self.table.arrange()?;
+        Ok(())
+    }
+
     /// The span of the next read, from what earlier spans leave.
     fn gather_from(
         &self,
         alloc: Global,
-        before: &BTreeSet<u64>,
+        before: &Taken,
         first: ReadRequest,
     ) -> Result<CoalescedRequest, AllocError>
         requires free { free_at self.now.reads before.now first.id ≡ Some first }
@@ -182,7 +190,7 @@ impl State {
         ensures apart { IfOk result (λ spans. AreApart spans.items) }
     {
         let mut spans = Vec::new(alloc);
-        let mut before = BTreeSet::new(alloc);
+        let mut before = Taken::new(alloc);
         let mut from = 0;
         for _ in 0..most {
             let Some(first) = self.table.next_polled(from, &before) else {
@@ -190,7 +198,7 @@ impl State {
             };
             let next = first.id;
             let span = self.gather_from(alloc, &before, first)?;
-            add_numbers(alloc, &mut before, span.requests())?;
+            before.add(alloc, span.requests())?;
             spans.push(span)?;
             from = next;
         }
@@ -247,23 +255,19 @@ impl State {
         ensures settings { SameSettings self.old self.new }
         ensures next { self.new.next ≡ self.old.next }
     {
-        self.take(batch);
-        self.resolve_all(batch);
-    }
-
-    /// Resolves several spans.
-    fn resolve_all(&mut self, batch: &[CoalescedRequest])
-        requires flies { AllInFlight self.old batch.now }
-        requires apart { AreApart batch.now }
-        ensures value { self.new ≡ all_resolved self.old batch.now }
-        ensures left { IsLeft self.old self.new }
-        ensures ranges { ranges_in_flight self.old.reads ≡ ranges_in_flight self.new.reads + length batch.now }
-    {
         prove!(self.concurrency() >= 1);
         for span in batch {
             prove!(self.concurrency() >= 1);
-            self.resolve(span);
+            self.settle_one(span);
         }
+    }
+
+    /// Takes a span and resolves it.
+    fn settle_one(&mut self, span: &CoalescedRequest)
+        requires { MergesNow self.old span.now }
+        ensures { self.new ≡ resolved (taken self.old span.now) span.now }
+    {
+        self.table.settle(span.requests());
     }
 
     /// The next span, taken: a batch of one. There is none exactly where no polled read waits. Only

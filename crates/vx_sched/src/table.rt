@@ -2,9 +2,8 @@
 ghost use Rattle.std.specs.Prelude.{◌≡◌, ℕ, Bool, ◌==◌, ◌<◌, ◌≤◌, ◌++◌, ◌∷◌, map, length, IfOk, ◌^◌, [], None, Some, cond, true, false, ◌&&◌, not, IsSome, IfSome, IfNone, OnOk, OnErr, option_map};
 ghost use Rattle.std.specs.BTreeMap.{insert_entry, is_at};
 ghost use Rattle.std.specs.Map.{keys_of};
-ghost use Rattle.std.specs.BTreeSet.{contains, keys_between};
+ghost use Rattle.std.specs.List.Sorted.{IsNonDecreasingBy};
 ghost use Rattle.std.specs.List.{list_any, AllByRecursion};
-ghost use Rattle.std.specs.declared.ops.Bound.TheVariants.{Included};
 ghost use Rattle.vx_sched.specs.declared.request.ReadRequest.{ReadRequest};
 ghost use Rattle.vx_sched.specs.Stored.{Read};
 ghost use Rattle.std.specs.Ordering.{nat_cmp};
@@ -12,8 +11,9 @@ ghost use Rattle.vx_sched.specs.Span.{end_of};
 ghost use Rattle.vx_sched.specs.Entries.{Entries, entry_at, waiting_among, if_waits, state_of, changed, all_changed, with_stage, waits_in, polled_in};
 ghost use Rattle.vx_sched.specs.Reads.{read_at, waiting_at, polled_at, state_at, leads_at, change, register_read, poll_read, drop_read, take_read, resolve_read};
 ghost use Rattle.vx_sched.specs.Merging.{is_listed, is_in_order, first_number};
-ghost use Rattle.vx_sched.specs.Kept.{Has, IsKept};
-ghost use Rattle.vx_sched.specs.Places.{AllFit, place_cmp, stays_waiting};
+ghost use Rattle.vx_sched.specs.Kept.{Has, HaveAll, IsKept, Names};
+ghost use Rattle.vx_sched.specs.Picks.{is_among};
+ghost use Rattle.vx_sched.specs.Places.{AllFit, offset_of};
 ghost use Rattle.vx_sched.specs.Counting.{counts_of};
 ghost use Rattle.vx_sched.specs.Polls.{has_room, is_raised, stays_polled, AreMarked};
 
@@ -24,8 +24,8 @@ use crate::numbered::Numbered;
 use crate::places::Places;
 use crate::polls::Polls;
 use crate::read::{Change, Read, ReadState, Stage, stage_after};
+use crate::taken::Taken;
 use std::alloc::{AllocError, Global};
-use std::collections::BTreeSet;
 use std::marker::Model;
 
 /// The reads by number, the places of those that wait, and which of them are polled.
@@ -50,7 +50,7 @@ impl Model for Table {
     ghost invariant = { λ t. IsTable t.reads t.places t.longest t.polls };
 }
 
-/// Adds a read and its place, or neither.
+/// Adds a read and its place. Without memory the reads are as before.
 fn add(
     reads: &mut Numbered<Read>,
     places: &mut Places,
@@ -61,23 +61,14 @@ fn add(
     ensures lookups { OnOk result ((q : ℕ) → entry_at reads.new q
         ≡ cond (is_at (nat_cmp request.id) q) (Some (record { request = request; stage = Stage.Registered }))
         (entry_at reads.old q)) }
-    ensures places { OnOk result ((k : ℕ × ℕ) (b : Bool) → Has places.old k b →
-        Has places.new k (cond (is_at (place_cmp (request.offset, request.id)) k) true b)) }
+    ensures place { OnOk result (Has places.new (request.offset, request.id)) }
+    ensures places { HaveAll places.old places.new }
     ensures kept { OnErr result (reads.new ≡ reads.old) }
-    ensures kept_places { Has places.old (request.offset, request.id) false → OnErr result
-        ((k : ℕ × ℕ) (b : Bool) → Has places.old k b → Has places.new k b) }
 {
     let id = request.id;
-    let place = (request.offset, id);
-    places.insert(place)?;
-    let read = Read::new(request, Stage::Registered);
-    match reads.put(id, read) {
-        Ok(()) => Ok(()),
-        Err(_) => {
-            places.remove(place);
-            Err(AllocError)
-        }
-    }
+    places.insert((request.offset, id))?;
+    reads.put(id, Read::new(request, Stage::Registered))?;
+    Ok(())
 }
 
 /// Puts the read of a number, which is there, in another stage, or takes it out.
@@ -96,36 +87,34 @@ fn put(reads: &mut Numbered<Read>, id: u64, request: ReadRequest, stage: Option<
     }
 }
 
-/// Takes the place of a read out, where it waits no longer.
-fn leave(places: &mut Places, read: &Read, stage: Option<Stage>)
-    ensures { (k : ℕ × ℕ) (b : Bool) → Has places.old k b → Has places.new k (cond
-        (waits_in read.now.stage && not (stays_waiting stage) && is_at (place_cmp (read.now.request.offset, read.now.request.id)) k) false b) }
+/// Says of a read that changed whether it left its place.
+fn leave(places: &mut Places, before: &Stage, after: Option<Stage>)
+    ensures { HaveAll places.old places.new }
 {
-    let stays = match stage {
+    let stays = match after {
         Some(stage) => stage.is_waiting(),
         None => false,
     };
-    if read.stage().is_waiting() && !stays {
-        let request = read.request();
-        places.remove((request.offset, request.id));
+    if before.is_waiting() && !stays {
+        places.leave();
     }
 }
 
 /// The raised number from one on that is least and not among some.
-fn next_of(polls: &Polls, from: u64, taken: &BTreeSet<u64>) -> Option<u64>
+fn next_of(polls: &Polls, from: u64, taken: &Taken) -> Option<u64>
     ensures raised { IfSome result (λ n. is_raised polls.now n ≡ true) }
-    ensures fresh { IfSome result (λ n. contains nat_cmp taken.now n ≡ false) }
+    ensures fresh { IfSome result (λ n. is_among taken.now n ≡ false) }
     ensures least { IfSome result (λ n. (q : ℕ) → from ≤ q → q < n → is_raised polls.now q ≡ true →
-        contains nat_cmp taken.now q ≡ true) }
+        is_among taken.now q ≡ true) }
     ensures none { IfNone result ((q : ℕ) → from ≤ q → q < 2 ^ 64 → is_raised polls.now q ≡ true →
-        contains nat_cmp taken.now q ≡ true) }
+        is_among taken.now q ≡ true) }
 {
     let mut at = from;
     loop {
         let Some(number) = polls.next(at) else {
             return None;
         };
-        if !taken.contains(&number) {
+        if !taken.contains(number) {
             return Some(number);
         }
         if number == u64::MAX {
@@ -202,9 +191,8 @@ fn numbers_near(
     left: u64,
     right: u64,
 ) -> Result<Vec<u64>, AllocError>
-    requires { left ≤ right }
-    ensures near { IfOk result (λ ids. places.now.is_kept ≡ true → ids.items ≡ map (λ (k : ℕ × ℕ). k.1)
-        (keys_between place_cmp (Included (left, 0)) (Included (right, u64.MAX)) places.now.set)) }
+    requires { IsNonDecreasingBy offset_of places.now.sorted.items }
+    ensures near { IfOk result (λ ids. places.now.is_kept ≡ true → Names places.now left right ids.items) }
     ensures all { IfOk result (λ ids. places.now.is_kept ≡ false → ids.items ≡ keys_of reads.now) }
 {
     if places.is_kept {
@@ -242,7 +230,7 @@ fn change_entry(
         let before = read.stage();
         let stage = stage_after(change, before);
         put(reads, id, read.request(), stage);
-        leave(places, &read, stage);
+        leave(places, &before, stage);
         mark(polls, id, &before, stage);
     }
 }
@@ -306,15 +294,15 @@ impl Table {
     }
 
     /// The polled read of least number, from a number on, that is not among some.
-    pub fn next_polled(&self, from: u64, taken: &BTreeSet<u64>) -> Option<ReadRequest>
+    pub fn next_polled(&self, from: u64, taken: &Taken) -> Option<ReadRequest>
         ensures found { IfSome result (λ r. waiting_at self.now r.id ≡ Some r) }
         ensures polled { IfSome result (λ r. polled_at self.now r.id ≡ true) }
-        ensures fresh { IfSome result (λ r. contains nat_cmp taken.now r.id ≡ false) }
+        ensures fresh { IfSome result (λ r. is_among taken.now r.id ≡ false) }
         ensures fits { IfSome result (λ r. end_of r < 2 ^ 64) }
         ensures least { IfSome result (λ r. (q : ℕ) → from ≤ q → q < r.id → polled_at self.now q ≡ true →
-            contains nat_cmp taken.now q ≡ true) }
+            is_among taken.now q ≡ true) }
         ensures none { IfNone result ((q : ℕ) → from ≤ q → polled_at self.now q ≡ true →
-            contains nat_cmp taken.now q ≡ true) }
+            is_among taken.now q ≡ true) }
     {
         match next_of(&self.polls, from, taken) {
             Some(id) => self.waiting(id),
@@ -370,6 +358,14 @@ impl Table {
         self.polls.open(id)?;
         add(&mut self.reads, &mut self.places, request)?;
         self.longest = longest;
+        Ok(())
+    }
+
+    /// Puts the places of the reads in order, as `reads_near` wants them. Only memory refuses.
+    pub fn arrange(&mut self) -> Result<(), AllocError>
+        ensures { self.new ≡ self.old }
+    {
+        self.places.arrange(&self.reads)?;
         Ok(())
     }
 
@@ -430,6 +426,20 @@ impl Table {
             &mut self.places,
             &mut self.polls,
             Change::Resolve,
+            span,
+        );
+    }
+
+    /// Takes waiting reads in one span and resolves them.
+    pub fn settle(&mut self, span: &[ReadRequest])
+        requires { AllByRecursion (λ r. waiting_at self.old r.id ≡ Some r) span.now }
+        ensures { self.new ≡ change (is_listed span.now) resolve_read (change (is_listed span.now) (take_read span.now) self.old) }
+    {
+        change_entries(
+            &mut self.reads,
+            &mut self.places,
+            &mut self.polls,
+            Change::Settle,
             span,
         );
     }

@@ -88,6 +88,7 @@ fn add_span(
     ensures reports { OnOk result (block.new.reports.items ≡ block.old.reports.items ++ reported (span_outcome outcome) span.now ∷ []) }
     ensures filed { OnOk result (block.new.filed.items ≡ block.old.filed.items ++ filed_by span.now outcome) }
 {
+    block.filed.reserve(span.requests().len())?;
     match outcome {
         Outcome::Bytes(buffer) => {
             file_good(alloc, span, &buffer, &mut block.filed)?;

@@ -45,7 +45,7 @@ pub fn puts_of(
 ) -> Result<Vec<(SegmentId, ByteBuffer)>, AllocError>
     ensures { IfOk result (λ puts. puts.items ≡ puts_of requests.now filed.now) }
 {
-    let mut puts = Vec::new(alloc);
+    let mut puts = Vec::with_capacity(alloc, filed.len())?;
     for one in filed {
         add_put(alloc, &mut puts, requests, one)?;
     }

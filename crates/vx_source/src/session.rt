@@ -27,7 +27,7 @@ use crate::look::Look;
 use crate::putting::{put_all, puts_of};
 use crate::request::{Filed, Newest, Place, Request, SharedRead};
 use crate::slots::{add_user, end_request, mark_polled, put_newest, remove_user};
-use crate::telling::{tell_begin, tell_drop, tell_poll};
+use crate::telling::{tell_begin, tell_block, tell_drop, tell_poll};
 use crate::{FailCause, Reply, Span, SpanOutcome, Tail};
 use std::alloc::{AllocError, Global};
 use std::marker::Model;
@@ -142,6 +142,9 @@ impl Session {
     {
         let newest = nothing_read(alloc, segments.len())?;
         let alignment = greatest_alignment(segments.as_slice());
+        // There is room for a request of each segment at once, since vectors that grow fill their memory anew.
+        let requests = Vec::with_capacity(alloc, segments.len())?;
+        let reads = Vec::with_capacity(alloc, segments.len())?;
         Ok(Session {
             segments,
             tail,
@@ -150,8 +153,8 @@ impl Session {
             alignment,
             concurrency,
             core: State::new(alloc, distance, max_read_size, alignment, concurrency),
-            requests: Vec::new(alloc),
-            reads: Vec::new(alloc),
+            requests,
+            reads,
             newest,
             counts: RequestMetrics::new(),
         })
@@ -222,6 +225,7 @@ impl Session {
     }
 
     /// Where a segment is to be had.
+    #[inline(always)]
     fn look<C: SegmentCache>(
         &self,
         alloc: Global,
@@ -352,6 +356,7 @@ impl Session {
     }
 
     /// Answers a register that found this.
+    #[inline(always)]
     fn answer(&mut self, alloc: Global, segment: u32, look: Look) -> Result<Reply, AllocError>
         requires { IsLook self.old segment look }
         ensures reply { IfOk result (λ reply. reply ≡ look_reply self.old look) }
@@ -403,6 +408,7 @@ impl Session {
     }
 
     /// Answers a poll of a request whose read has its bytes.
+    #[inline(always)]
     fn poll_good(&mut self, alloc: Global, n: usize, r: u64) -> Result<Reply, AllocError>
         ensures reply { (x : SharedRead) → slice_get self.old.reads r ≡ Some x → IfOk result (λ reply. reply ≡ reply_good x.bytes) }
         ensures after { (x : SharedRead) → slice_get self.old.reads r ≡ Some x → OnOk result (self.new ≡ after_good self.old n r x.bytes) }
@@ -419,6 +425,7 @@ impl Session {
     }
 
     /// Answers a poll of a request that shares a read.
+    #[inline(always)]
     fn poll_read(&mut self, alloc: Global, n: usize, r: u64) -> Result<Reply, AllocError>
         ensures reply { IfOk result (λ reply. reply ≡ reply_read (slice_get self.old.reads r)) }
         ensures after { OnOk result (self.new ≡ after_read self.old n r (slice_get self.old.reads r)) }
@@ -445,6 +452,7 @@ impl Session {
     }
 
     /// Answers a poll, by what is kept.
+    #[inline(always)]
     fn poll_kept(&mut self, alloc: Global, number: u64) -> Result<Reply, AllocError>
         ensures reply { IfOk result (λ reply. reply ≡ poll_reply self.old number) }
         ensures after { OnOk result (self.new ≡ after_poll self.old number) }
@@ -470,6 +478,7 @@ impl Session {
     }
 
     /// Ends a request, by what is kept.
+    #[inline(always)]
     fn drop_kept(&mut self, number: u64) -> Reply
         ensures reply { result ≡ drop_reply self.old number }
         ensures after { self.new ≡ after_drop self.old number }
@@ -491,6 +500,7 @@ impl Session {
 
     /// Makes a request for a segment, which is looked for in the table, in the tail, in the cache and among the
     /// reads. Without memory the session is as before.
+    #[inline(always)]
     pub fn register<C: SegmentCache>(
         &mut self,
         alloc: Global,
@@ -514,6 +524,7 @@ impl Session {
     }
 
     /// Answers a poll. Without memory the session is as before.
+    #[inline(always)]
     pub fn poll(&mut self, alloc: Global, number: u64) -> Result<Reply, AllocError>
         ensures polls { IfOk result (λ reply. (w : World) (past : List Moment) → Stands w past self.old →
             IsNext w past (polls number) reply self.new) }
@@ -528,6 +539,7 @@ impl Session {
     }
 
     /// Ends a request.
+    #[inline(always)]
     pub fn drop_request(&mut self, number: u64) -> Reply
         ensures drops { (w : World) (past : List Moment) → Stands w past self.old → IsNext w past (drops number) result self.new }
         ensures bytes { (file : List ℕ) → HasBytes file self.old → HasBytes file self.new }
@@ -554,6 +566,14 @@ impl Session {
         ensures rests { ranges_in_flight self.now.core.reads ≡ 0 }
     {
         self.core.concurrency()
+    }
+
+    /// Makes the scheduler ready for a block. Only memory refuses.
+    fn arrange(&mut self) -> Result<(), AllocError>
+        ensures { self.new ≡ self.old }
+    {
+        tell_block(&mut self.core)?;
+        Ok(())
     }
 
     /// The spans that are to be asked next, as many as one call asks unless no polled read is left.
@@ -624,6 +644,7 @@ impl Session {
         ensures same_cache { SameCache (C.state cache.old) (C.state cache.new) }
     {
         let most = self.limit();
+        self.arrange()?;
         let spans = self.next_block(alloc)?;
         if spans.is_empty() {
             return Ok(false);

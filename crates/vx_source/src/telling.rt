@@ -43,3 +43,11 @@ pub fn tell_drop(core: &mut State, r: u64)
         Err(_) => unreachable!(),
     }
 }
+
+/// A block of spans is to be gathered. Only memory refuses.
+pub fn tell_block(core: &mut State) -> Result<(), AllocError>
+    ensures { core.new ≡ core.old }
+{
+    core.arrange()?;
+    Ok(())
+}

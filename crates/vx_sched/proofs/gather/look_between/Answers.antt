@@ -8,7 +8,8 @@ use Rattle.vx_sched.proofs.gather.look_between.Goals as goal
 pub loop-read-preserved : goal.loop-read-preserved
 loop-read-preserved c =
     let cons : drop c.loop-read.read-index c.deref-read-items.result.now ≡ c.read-item.result ∷ drop (suc c.loop-read.read-index) c.deref-read-items.result.now =
-    drop-cons c.deref-read-items.result.now c.loop-read.read-index c.read-item.result c.loop-read-test.true ∙ ap (λ (z : ReadRequest). z ∷ drop (suc c.loop-read.read-index) c.deref-read-items.result.now) (sym c.read-item.is) in
+    drop-cons c.deref-read-items.result.now c.loop-read.read-index c.read-item.result c.loop-read-test.true
+    ∙ ap (λ (z : ReadRequest). z ∷ drop (suc c.loop-read.read-index) c.deref-read-items.result.now) (sym c.read-item.is) in
     let waits = subst (AllByRecursion (λ r. waiting_at c.args.table.now r.id ≡ Some r)) cons c.loop-read.invariant.3 in
     rw add-one (
       c.in_ok-look.ensures.picked,

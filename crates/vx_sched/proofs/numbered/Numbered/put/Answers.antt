@@ -14,25 +14,28 @@ invariant_of-self g c =
 pub returns-in-Ok-clause-ok : goal.returns-in-Ok-clause-ok
 returns-in-Ok-clause-ok g c =
     let found = subst (λ ss. IsSlot ss c.args.number c.in-Ok.at) c.deref.ensures.value c.in-Ok.ensures.found in
-    put_there c.self.inside.slots.items c.set_value.new.slots.items c.args.number c.in-Ok.at c.args.value c.self.invariant found c.set_value.ensures ∙ ap (λ es. insert_entry nat_cmp es c.args.number c.args.value) c.self.view_is
+    put_there c.self.inside.slots.items c.set_value.new.slots.items c.args.number c.in-Ok.at c.args.value c.self.invariant found c.set_value.ensures
+    ∙ ap (λ es. insert_entry nat_cmp es c.args.number c.args.value) c.self.view_is
 
 pub invariant_of-self-in-Err : goal.invariant_of-self-in-Err
 invariant_of-self-in-Err g c =
     let gap = subst (λ ss. IsGap ss c.args.number c.in-Err.at) c.deref.ensures.value c.in-Err.ensures.gap in
-    subst (λ ss. RiseFrom 0 ss) (sym c.in-Ok-insert.ensures.items) (put_rises c.self.inside.slots.items c.args.number c.in-Err.at c.args.value c.self.invariant gap)
+    subst (λ ss. RiseFrom 0 ss) (sym c.in-Ok-add_slot.ensures.ok) (put_rises c.self.inside.slots.items c.args.number c.in-Err.at c.args.value c.self.invariant gap)
 
 pub returns-in_default-clause-absent : goal.returns-in_default-clause-absent
 returns-in_default-clause-absent g c =
     let gap = subst (λ ss. IsGap ss c.args.number c.in-Err.at) c.deref.ensures.value c.in-Err.ensures.gap in
     sym (gap_value c.self.inside.slots.items c.args.number c.in-Err.at gap ∙ ap (λ es. lookup (is_at (nat_cmp c.args.number)) es) c.self.view_is)
 
-pub returns-in-Ok-insert-clause-ok : goal.returns-in-Ok-insert-clause-ok
-returns-in-Ok-insert-clause-ok g c =
+pub returns-in-Ok-add_slot-clause-ok : goal.returns-in-Ok-add_slot-clause-ok
+returns-in-Ok-add_slot-clause-ok g c =
     let gap = subst (λ ss. IsGap ss c.args.number c.in-Err.at) c.deref.ensures.value c.in-Err.ensures.gap in
-    ap held c.in-Ok-insert.ensures.items ∙ put_here c.self.inside.slots.items c.args.number c.in-Err.at c.args.value c.self.invariant gap ∙ ap (λ es. insert_entry nat_cmp es c.args.number c.args.value) c.self.view_is
+    ap held c.in-Ok-add_slot.ensures.ok ∙ put_here c.self.inside.slots.items c.args.number c.in-Err.at c.args.value c.self.invariant gap
+    ∙ ap (λ es. insert_entry nat_cmp es c.args.number c.args.value) c.self.view_is
 
 pub returns-in-Ok-clause-lookups : goal.returns-in-Ok-clause-lookups
 returns-in-Ok-clause-lookups g c = λ q. ap (λ es. lookup (is_at (nat_cmp q)) es) (returns-in-Ok-clause-ok g c) ∙ insert_lookup c.args.self.now c.args.number c.args.value q
 
-pub returns-in-Ok-insert-clause-lookups : goal.returns-in-Ok-insert-clause-lookups
-returns-in-Ok-insert-clause-lookups g c = λ q. ap (λ es. lookup (is_at (nat_cmp q)) es) (returns-in-Ok-insert-clause-ok g c) ∙ insert_lookup c.args.self.now c.args.number c.args.value q
+pub returns-in-Ok-add_slot-clause-lookups : goal.returns-in-Ok-add_slot-clause-lookups
+returns-in-Ok-add_slot-clause-lookups g c = λ q. ap (λ es. lookup (is_at (nat_cmp q)) es) (returns-in-Ok-add_slot-clause-ok g c)
+    ∙ insert_lookup c.args.self.now c.args.number c.args.value q

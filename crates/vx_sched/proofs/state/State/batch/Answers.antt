@@ -1,6 +1,5 @@
 use Rattle.std.proofs.Common.{◌≡◌, ℕ, ◌<◌, ◌≤◌, ◌||◌, ◌∷◌, [], length, length-append, true, subst, ap, arith}
-use Rattle.std.specs.BTreeSet.{contains}
-use Rattle.std.specs.Ordering.{nat_cmp}
+use Rattle.vx_sched.specs.Picks.{is_among}
 use Rattle.vx_sched.specs.Reads.{polled_at}
 use Rattle.vx_sched.specs.Merging.{is_listed}
 use Rattle.vx_sched.specs.Scheduling.{Scheduler}
@@ -18,10 +17,10 @@ pub loop-preserved : goal.loop-preserved
 loop-preserved c =
     let reads = ap (λ (t : Scheduler). t.reads) c.self.view_is in
     let polled = subst (λ rs. polled_at rs c.in-Some.first.id ≡ true) reads c.in-Some.ensures.polled in
-    let least = subst (λ rs. (q : ℕ) → c.loop.from ≤ q → q < c.in-Some.first.id → polled_at rs q ≡ true → contains nat_cmp c.loop.before q ≡ true) reads c.in-Some.ensures.least in
-    let numbers = subst (λ rs. (q : ℕ) → contains nat_cmp c.add_numbers.new.numbers q ≡ (contains nat_cmp c.loop.before q || is_listed rs q)) c.requests.ensures.value c.in_ok-add_numbers.ensures in (
+    let least = subst (λ rs. (q : ℕ) → c.loop.from ≤ q → q < c.in-Some.first.id → polled_at rs q ≡ true → is_among c.loop.before q ≡ true) reads c.in-Some.ensures.least in
+    let numbers = subst (λ rs. (q : ℕ) → is_among c.add.new.self q ≡ (is_among c.loop.before q || is_listed rs q)) c.requests.ensures.value c.in_ok-add.ensures in (
       rw c.in_ok-push.ensures.items (so_far-step c.args.self.now c.loop.spans.items c.loop.before c.loop.from c.loop.invariant.0
-          c.in-Some.first c.in_ok-span.span c.add_numbers.new.numbers polled c.in-Some.ensures.fresh least c.in_ok-span.ensures numbers),
+          c.in-Some.first c.in_ok-span.span c.add.new.self polled c.in-Some.ensures.fresh least c.in_ok-span.ensures numbers),
       omega (arith, ap length c.in_ok-push.ensures.items, length-append c.loop.spans.items (c.in_ok-span.span ∷ []), c.loop.invariant.1),
     )
 

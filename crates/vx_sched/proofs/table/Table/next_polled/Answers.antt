@@ -1,6 +1,5 @@
 use Rattle.std.proofs.Common.{◌≡◌, ℕ, ◌<◌, ◌≤◌, true, ap, sym, ◌∙◌}
-use Rattle.std.specs.BTreeSet.{contains}
-use Rattle.std.specs.Ordering.{nat_cmp}
+use Rattle.vx_sched.specs.Picks.{is_among}
 use Rattle.vx_sched.specs.Reads.{Reads, polled_at}
 use Rattle.vx_sched.proofs.SeenLemmas.{stands-kept, polled-seen}
 use Rattle.vx_sched.proofs.TableLemmas.{raised-polled, polled-small, found-along, found-some}
@@ -16,7 +15,7 @@ returns-in-Some-clause-polled c =
 pub returns-in-Some-clause-least : goal.returns-in-Some-clause-least
 returns-in-Some-clause-least c =
     let stands = stands-kept c.self.inside.reads c.self.inside.places c.self.inside.longest c.self.invariant.kept in
-    found-along (λ n. (q : ℕ) → c.args.from ≤ q → q < n → polled_at c.args.self.now q ≡ true → contains nat_cmp c.args.taken.now q ≡ true) c.in-Some.id c.waiting.result c.waiting.ensures.keyed
+    found-along (λ n. (q : ℕ) → c.args.from ≤ q → q < n → polled_at c.args.self.now q ≡ true → is_among c.args.taken.now q ≡ true) c.in-Some.id c.waiting.result c.waiting.ensures.keyed
     (λ q f l p. c.in-Some.ensures.least q f l (raised-polled c.self.inside.reads c.self.inside.polls c.self.invariant.marked q
     ∙ sym (polled-seen c.self.inside.reads q stands.keyed) ∙ ap (λ (reads : Reads). polled_at reads q) c.self.view_is ∙ p))
 
