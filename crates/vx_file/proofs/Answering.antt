@@ -1,6 +1,6 @@
 -- The replies to a script, step by step.
-use Rattle.std.proofs.Common.{◌≡◌, ℕ, ◌+◌, ◌<◌, ◌≤◌, List, [], ◌∷◌, ◌++◌, length, length-append, drop, get_or, Option, Some, Result, Ok, Err, refl, sym, ap, subst, ◌∙◌, arith, append_assoc, drop-cons, add-one, inl}
-use Rattle.std.proofs.lemmas.List.{append-nil, drop_all}
+use Rattle.std.proofs.Common.{◌≡◌, ℕ, ◌+◌, ◌≤◌, List, [], ◌∷◌, ◌++◌, length, length-append, Option, Some, Result, Ok, Err, refl, sym, ap, subst, ◌∙◌, arith, append_assoc, inl}
+use Rattle.std.proofs.lemmas.List.{append-nil}
 use Rattle.std.specs.Prelude.{OnErr}
 use Rattle.vx_base.specs.Asking.{Log}
 use Rattle.vx_base.specs.Caches.{CacheState, SameCache}
@@ -167,10 +167,6 @@ step-deed (Poll number) got = refl
 step-deed (Drop number) got = refl
 step-deed Drive got = refl
 
--- the rest of a script begins with the step at its place
-rest-at : (script : List Step) (i : ℕ) (d : Step) → i < length script → drop i script ≡ get_or script i d ∷ drop (i + 1) script
-rest-at script i d h = drop-cons script i d h ∙ ap (λ n. get_or script i d ∷ drop n script) (sym (add-one i))
-
 module _ (w : World) (script : List Step) (first : Kept) where
   pub answering-starts : (s : ReaderState) (cache : CacheState) → Stands w [] first → Answering w script script s s first cache cache [] first
   answering-starts s cache st = record {
@@ -204,19 +200,16 @@ module _ (w : World) (script : List Step) (first : Kept) where
           ((s.reply_is a.got, all.0), s.bytes, s.slices);
     }
 
-  module _ (i : ℕ) (d : Step) (before now next : ReaderState) (cache cache_now cache_next : CacheState) (replies : List Reply) (k k' : Kept) (reply : Reply) where
-    pub answering-turn : i < length script → (h : Answering w script (drop i script) before now first cache cache_now replies k) → SameCache cache_now cache_next
-        → ((past : List Moment) → Stands w past k → IsAnswered w past (get_or script i d) now next cache_now cache_next reply k')
-        → ((past : List Moment) (file : List ℕ) → before.bytes ≡ Some file → Stands w past k → HasBytes file k → TellsSlices file w.table cache_now → StaysTrue file w past (get_or script i d) cache_next reply k')
-        → Answering w script (drop (i + 1) script) before next first cache cache_next (replies ++ reply ∷ []) k'
-    answering-turn lt h same answered stays =
-        let there = subst (λ rest. Answering w script rest before now first cache cache_now replies k) (rest-at script i d lt) h in
-        answering-goes_on (drop (i + 1) script) before now next cache cache_now cache_next replies k k' (get_or script i d) reply there same (answered there.history there.stands)
+  -- the first of the steps that are left was answered
+  module _ (left rest : List Step) (step : Step) (before now next : ReaderState) (cache cache_now cache_next : CacheState) (replies : List Reply) (k k' : Kept) (reply : Reply) where
+    pub answering-turn : left ≡ step ∷ rest → (h : Answering w script left before now first cache cache_now replies k) → SameCache cache_now cache_next
+        → ((past : List Moment) → Stands w past k → IsAnswered w past step now next cache_now cache_next reply k')
+        → ((past : List Moment) (file : List ℕ) → before.bytes ≡ Some file → Stands w past k → HasBytes file k → TellsSlices file w.table cache_now → StaysTrue file w past step cache_next reply k')
+        → Answering w script rest before next first cache cache_next (replies ++ reply ∷ []) k'
+    answering-turn is h same answered stays =
+        let there = subst (λ l. Answering w script l before now first cache cache_now replies k) is h in
+        answering-goes_on rest before now next cache cache_now cache_next replies k k' step reply there same (answered there.history there.stands)
         (λ file told b t. stays there.history file told there.stands b t)
-
-  pub answering-done : (i : ℕ) (before now : ReaderState) (cache cache_now : CacheState) (replies : List Reply) (k : Kept) → length script ≤ i → Answering w script (drop i script) before now first cache cache_now replies k
-      → Answering w script [] before now first cache cache_now replies k
-  answering-done i before now cache cache_now replies k past_end h = subst (λ rest. Answering w script rest before now first cache cache_now replies k) (drop_all i script past_end) h
 
   -- the next step found no memory
   pub answering-stops : (rest : List Step) (before now next : ReaderState) (cache cache_now : CacheState) (replies : List Reply) (k : Kept) (h : Answering w script rest before now first cache cache_now replies k)

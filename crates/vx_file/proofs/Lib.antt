@@ -1,6 +1,7 @@
 pub mod Answering
 pub mod Buffers
 pub mod CachedLemmas
+pub mod CompactLemmas
 pub mod Covering
 pub mod Loadings
 pub mod Looking

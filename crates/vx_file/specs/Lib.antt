@@ -1,5 +1,7 @@
 pub mod Buffers
 pub mod Cached
+pub mod CompactReplies
+pub mod CompactScript
 pub mod Covered
 pub mod Hints
 pub mod KeptFooters
@@ -21,6 +23,7 @@ pub mod Kept
 pub mod Scanned
 pub mod ReaderScans
 pub mod Splits
+pub mod StepsLeft
 pub mod LayoutReaders
 pub mod KeptReaders
 pub mod MultiFiles

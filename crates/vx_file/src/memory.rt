@@ -7,7 +7,7 @@ ghost use Rattle.vx_file.specs.Hints.{no_hints};
 ghost use Rattle.vx_file.specs.Memory.{ServesMemory};
 ghost use Rattle.vx_file.specs.Serving.{HasCause, FaultRose, NamesCheck, StandsStill, Succeeds};
 
-use crate::{ServeError, ServeOptions, Served, Step, serve};
+use crate::{Script, ServeError, ServeOptions, Served, serve_script};
 use std::alloc::Global;
 use vx_base::{ByteBuffer, MemReader, NoCache, Reader};
 use vx_data::VortexSession;
@@ -20,7 +20,7 @@ fn serve_unknown<R: Reader>(
     alloc: Global,
     session: VortexSession,
     reader: &mut R,
-    script: &[Step],
+    script: &Script,
 ) -> Result<Served, ServeError>
     ensures cause { (file : List ℕ) → (R.state reader.old).bytes ≡ Some file →
         HasCause no_hints file script.now (R.state reader.old) (R.state reader.new) nothing_held nothing_held result }
@@ -33,7 +33,7 @@ fn serve_unknown<R: Reader>(
     ensures same { SameReader (R.state reader.old) (R.state reader.new) }
 {
     let mut cache = NoCache;
-    serve(
+    serve_script(
         alloc,
         ServeOptions::new(session),
         &mut cache,
@@ -46,7 +46,7 @@ fn serve_unknown<R: Reader>(
 pub fn serve_in_memory(
     alloc: Global,
     file: ByteBuffer,
-    script: &[Step],
+    script: &Script,
 ) -> Result<Served, ServeError>
     ensures { ServesMemory file.bytes script.now result }
 {

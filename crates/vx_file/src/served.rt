@@ -1,13 +1,12 @@
 //! What serving a script gives.
 ghost use Rattle.std.specs.Prelude.{◌≡◌};
 
-use crate::MetadataValue;
+use crate::{MetadataValue, Replies};
 use std::alloc::AllocError;
 use thiserror::Error;
 use vx_base::{CacheError, Sequence};
 use vx_footer::{Footer, OpenError};
 use vx_sched::Fault;
-use vx_source::Reply;
 
 /// A footer, the values of the metadata, where they were loaded, the ranges that were asked before the script was answered,
 /// and one reply for each step of it.
@@ -16,7 +15,7 @@ pub struct Served {
     pub footer: Footer,
     pub metadata: Option<Sequence<MetadataValue>>,
     pub opening: Sequence<(u64, u64)>,
-    pub replies: Sequence<Reply>,
+    pub replies: Replies,
 }
 
 /// Why a file was not served.

@@ -1,5 +1,6 @@
 //! Serves scripts: opens a file, and answers one reply a step.
-ghost use Rattle.std.specs.Prelude.{◌≡◌, ℕ, List, Some, true, IsOk};
+ghost use Rattle.std.specs.Prelude.{◌≡◌, ℕ, List, length, Some, true, IsOk};
+ghost use Rattle.vx_file.specs.StepsLeft.{steps_left};
 ghost use Rattle.vx_base.specs.Caches.{SameCache};
 ghost use Rattle.vx_base.specs.Readers.{SameReader};
 ghost use Rattle.vx_file.specs.Hints.{IsSized, IsFooterOf};
@@ -7,10 +8,63 @@ ghost use Rattle.vx_file.specs.Plans.{plan_of};
 ghost use Rattle.vx_file.specs.Serving.{HasCause, FaultRose, NamesCheck, StandsStill, Succeeds};
 
 use crate::prepared::{Prepared, prepare, session_of};
+use crate::script::Steps;
 use crate::steps::answer_steps;
-use crate::{ServeError, ServeOptions, Served, Step};
+use crate::{Replies, Script, ServeError, ServeOptions, Served, Step};
 use std::alloc::Global;
-use vx_base::{Reader, SegmentCache, Sequence};
+use vx_base::{Reader, SegmentCache};
+
+/// The same for steps that are taken one after another, of which there are so many.
+fn serve_steps<R: Reader, C: SegmentCache>(
+    alloc: Global,
+    options: ServeOptions,
+    cache: &mut C,
+    reader: &mut R,
+    steps: Steps<'_>,
+    count: usize,
+) -> Result<Served, ServeError>
+    requires { length (steps_left steps) ≡ count }
+    ensures cause { (file : List ℕ) → (R.state reader.old).bytes ≡ Some file → IsSized options file →
+        HasCause options file (steps_left steps.entry) (R.state reader.old) (R.state reader.new) (C.state cache.old) (C.state cache.new) result }
+    ensures fault { FaultRose (R.state reader.old) (R.state reader.new) (C.state cache.old) (C.state cache.new) result }
+    ensures names { NamesCheck result }
+    ensures served { (file : List ℕ) → (R.state reader.old).bytes ≡ Some file → IsSized options file →
+        IsOk (plan_of options file).footer → StandsStill (R.state reader.old).faults (R.state reader.new).faults →
+        StandsStill (C.state cache.old).faults (C.state cache.new).faults → Succeeds result }
+    ensures steady { (file : List ℕ) → (R.state reader.old).never_fails ≡ true → (R.state reader.old).bytes ≡ Some file →
+        IsSized options file → IsFooterOf options.footer file → (R.state reader.new).faults ≡ (R.state reader.old).faults }
+    ensures same { SameReader (R.state reader.old) (R.state reader.new) }
+    ensures same_cache { SameCache (C.state cache.old) (C.state cache.new) }
+{
+    let prepared = prepare(alloc, &options, reader, cache)?;
+    let Prepared {
+        footer,
+        tail,
+        opening,
+        metadata,
+    } = prepared;
+    if count == 0 {
+        // no session is made, whose tables are as long as that of the segments
+        return Ok(Served {
+            footer,
+            metadata,
+            opening,
+            replies: Replies::new(alloc),
+        });
+    }
+    let segments = footer.segment_specs_with_metadata();
+    let mut session = session_of(alloc, reader, tail, segments)?;
+    let replies = match answer_steps(alloc, &mut session, reader, cache, steps, count) {
+        Ok(replies) => replies,
+        Err(_) => return Err(ServeError::OutOfMemory),
+    };
+    Ok(Served {
+        footer,
+        metadata,
+        opening,
+        replies,
+    })
+}
 
 /// Opens a file, from its tail or by the footer that is supplied, and answers a script, one reply a step. The cache
 /// is asked for segments that the tail does not cover, and given those that it covers and those that are read. Where the
@@ -39,32 +93,42 @@ pub fn serve<R: Reader, C: SegmentCache>(
     ensures same { SameReader (R.state reader.old) (R.state reader.new) }
     ensures same_cache { SameCache (C.state cache.old) (C.state cache.new) }
 {
-    let prepared = prepare(alloc, &options, reader, cache)?;
-    let Prepared {
-        footer,
-        tail,
-        opening,
-        metadata,
-    } = prepared;
-    if script.is_empty() {
-        // no session is made, whose tables are as long as that of the segments
-        return Ok(Served {
-            footer,
-            metadata,
-            opening,
-            replies: Sequence::new(alloc),
-        });
-    }
-    let segments = footer.segment_specs_with_metadata();
-    let mut session = session_of(alloc, reader, tail, segments)?;
-    let replies = match answer_steps(alloc, &mut session, reader, cache, script) {
-        Ok(replies) => replies,
-        Err(_) => return Err(ServeError::OutOfMemory),
-    };
-    Ok(Served {
-        footer,
-        metadata,
-        opening,
-        replies,
-    })
+    serve_steps(
+        alloc,
+        options,
+        cache,
+        reader,
+        Steps::Plain(script),
+        script.len(),
+    )
+}
+
+/// The same for a script that is kept in few bytes.
+pub fn serve_script<R: Reader, C: SegmentCache>(
+    alloc: Global,
+    options: ServeOptions,
+    cache: &mut C,
+    reader: &mut R,
+    script: &Script,
+) -> Result<Served, ServeError>
+    ensures cause { (file : List ℕ) → (R.state reader.old).bytes ≡ Some file → IsSized options file →
+        HasCause options file script.now (R.state reader.old) (R.state reader.new) (C.state cache.old) (C.state cache.new) result }
+    ensures fault { FaultRose (R.state reader.old) (R.state reader.new) (C.state cache.old) (C.state cache.new) result }
+    ensures names { NamesCheck result }
+    ensures served { (file : List ℕ) → (R.state reader.old).bytes ≡ Some file → IsSized options file →
+        IsOk (plan_of options file).footer → StandsStill (R.state reader.old).faults (R.state reader.new).faults →
+        StandsStill (C.state cache.old).faults (C.state cache.new).faults → Succeeds result }
+    ensures steady { (file : List ℕ) → (R.state reader.old).never_fails ≡ true → (R.state reader.old).bytes ≡ Some file →
+        IsSized options file → IsFooterOf options.footer file → (R.state reader.new).faults ≡ (R.state reader.old).faults }
+    ensures same { SameReader (R.state reader.old) (R.state reader.new) }
+    ensures same_cache { SameCache (C.state cache.old) (C.state cache.new) }
+{
+    serve_steps(
+        alloc,
+        options,
+        cache,
+        reader,
+        Steps::Compact(script.iter()),
+        script.len(),
+    )
 }

@@ -6,10 +6,12 @@ ghost use Rattle.vx_source.specs.Bytes.{HasBytes, TellsSlices};
 ghost use Rattle.vx_source.specs.Fits.{World};
 ghost use Rattle.vx_source.specs.History.{Moment};
 ghost use Rattle.vx_source.specs.Stands.{Stands, EndsWithin};
+ghost use Rattle.vx_file.specs.StepsLeft.{steps_left};
 ghost use Rattle.vx_file.specs.Scripts.{Stops};
 ghost use Rattle.vx_file.specs.Steps.{IsAnswered, StaysTrue, StopsStep, Answering};
 
-use crate::Step;
+use crate::script::Steps;
+use crate::{Replies, Step};
 use std::alloc::{AllocError, Global};
 use vx_base::{Reader, SegmentCache, SegmentId, Sequence};
 use vx_source::{Reply, Session};
@@ -55,35 +57,30 @@ fn answer_step<R: Reader, C: SegmentCache>(
     }
 }
 
-/// No reply, with room for so many. Only memory refuses.
-fn no_replies(alloc: Global, count: usize) -> Result<Sequence<Reply>, AllocError>
-    ensures { IfOk result (λ replies. replies ≡ []) }
-{
-    let replies = Vec::with_capacity(alloc, count)?;
-    Ok(Sequence::from_vec(replies))
-}
-
 /// Answers the steps of a script, one reply each.
 pub(crate) fn answer_steps<R: Reader, C: SegmentCache>(
     alloc: Global,
     session: &mut Session,
     reader: &mut R,
     cache: &mut C,
-    script: &[Step],
-) -> Result<Sequence<Reply>, AllocError>
+    steps: Steps<'_>,
+    count: usize,
+) -> Result<Replies, AllocError>
     requires concurrency { session.old.idle.concurrency ≤ (R.state reader.old).concurrency }
-    requires room { length session.old.requests + length script.now ≤ u64.MAX }
+    requires count { length (steps_left steps) ≡ count }
+    requires room { length session.old.requests + count ≤ u64.MAX }
     ensures answered { IfOk result (λ replies. (w : World) → Stands w [] session.old →
-        Answering w script.now [] (R.state reader.old) (R.state reader.new) session.old (C.state cache.old) (C.state cache.new) replies session.new) }
-    ensures stopped { OnErr result ((w : World) → Stands w [] session.old → Stops w script.now (R.state reader.old).log (R.state reader.new).log) }
+        Answering w (steps_left steps.entry) [] (R.state reader.old) (R.state reader.new) session.old (C.state cache.old) (C.state cache.new) replies session.new) }
+    ensures stopped { OnErr result ((w : World) → Stands w [] session.old →
+        Stops w (steps_left steps.entry) (R.state reader.old).log (R.state reader.new).log) }
     ensures steady { (w : World) (file : List ℕ) → (R.state reader.old).never_fails ≡ true → (R.state reader.old).bytes ≡ Some file → Stands w [] session.old →
         EndsWithin (length file) w.table → (R.state reader.new).faults ≡ (R.state reader.old).faults }
     ensures same { SameReader (R.state reader.old) (R.state reader.new) }
     ensures same_cache { SameCache (C.state cache.old) (C.state cache.new) }
 {
-    let mut replies = no_replies(alloc, script.len())?;
-    for step in script {
-        let reply = answer_step(alloc, session, reader, cache, *step)?;
+    let mut replies = Replies::with_capacity(alloc, count)?;
+    for step in steps {
+        let reply = answer_step(alloc, session, reader, cache, step)?;
         replies.push(reply)?;
     }
     Ok(replies)
