@@ -16,6 +16,7 @@ pub mod NameScans
 pub mod OptionLemmas
 pub mod Performing
 pub mod PruneArms
+pub mod ReplyText
 pub mod RowLines
 pub mod RowTypes
 pub mod ScanArms

@@ -1,7 +1,5 @@
 -- The cause of what was served from the file of a name, from the causes of its parts.
 use Rattle.std.proofs.Common.{◌≡◌, ℕ, ◌+◌, ◌≤◌, min, Bool, List, [], ◌∷◌, ◌++◌, Option, Some, None, Result, Ok, Err, sym, ap, subst, ◌∙◌, arith, ◌⊎◌, inl, inr}
-use Rattle.std.specs.Prelude.{Vec}
-use Rattle.std.specs.Global.{Global}
 use Rattle.std.specs.Option.{option_map}
 use Rattle.vx_base.specs.Asking.{Log}
 use Rattle.vx_base.specs.Counts.{Rises, last_count}
@@ -29,8 +27,8 @@ use Rattle.vx_main.specs.Script.{script_of}
 use Rattle.vx_main.specs.Served.{ReaderCause, ReaderFault, FileCause, GivesBack, GaveBack, ServesFile, RefusesFile, LacksFile}
 use Rattle.vx_main.specs.Streams.{ReadToEnd}
 
-pub script-cause : (before now : SourceState) (text : List ℕ) (answer : Result (Vec Step Global) Failure) → ((t : List ℕ) → before.rest ≡ Some t → (text ≡ t) × ReadToEnd t now) → StepsCause text answer → ScriptCause before now answer
-script-cause before now text (Ok steps) read h = λ t told. let r = read t told in (r.1, subst (λ x. script_of x ≡ Ok steps.items) r.0 h)
+pub script-cause : (before now : SourceState) (text : List ℕ) (answer : Result (List Step) Failure) → ((t : List ℕ) → before.rest ≡ Some t → (text ≡ t) × ReadToEnd t now) → StepsCause text answer → ScriptCause before now answer
+script-cause before now text (Ok steps) read h = λ t told. let r = read t told in (r.1, subst (λ x. script_of x ≡ Ok steps) r.0 h)
 script-cause before now text (Err (failures.Line line)) read h = λ t told. let r = read t told in (r.1, subst (λ x. script_of x ≡ Err line) r.0 h)
 script-cause before now text (Err failures.OutOfMemory) read h = tt
 script-cause before now text (Err failures.Usage) read h = absurd h

@@ -6,7 +6,9 @@ use Rattle.vx_base.specs.Streams.{SourceState}
 use Rattle.vx_footer.specs.declared.error.OpenError.{OpenError}
 use Rattle.vx_footer.specs.Footers.{FooterContent}
 use Rattle.vx_footer.specs.Opening.{vx_grammar}
+use Rattle.vx_rows.specs.Binding.{Fails}
 use Rattle.vx_rows.specs.declared.bind_error.BindError.{BindError}
+use Rattle.vx_rows.specs.declared.bind_error.BindError.TheVariants as bind
 use Rattle.vx_rows.specs.Predicates.{Pred}
 use Rattle.vx_prune.specs.PredicateWords.{predicate_of}
 use Rattle.vx_file.specs.declared.served.Served.{Served}
@@ -89,6 +91,14 @@ module _ (p : prune.Prune) (source : SourceState) (files files_now : OpenerState
       deserved = λ told. judged-status (prune_hints p) p.filter served.footer.content predicate (Err error) (files.file p.name) told grammar spelled is;
     };
   }
+
+  -- the predicate does not fit the rows
+  pub prune-unbound : (predicate : Pred) (error : BindError) → predicate_of p.filter ≡ Some predicate → (error ≡ bind.OutOfMemory → ⊥) → Fails error (pruned predicate served.footer.content)
+      → Gathers (commands.Prune p) source source files files_now (Err (failures.Unbound error))
+  prune-unbound predicate bind.NoField spelled other is = prune-refuses predicate bind.NoField spelled is
+  prune-unbound predicate bind.TypeMismatch spelled other is = prune-refuses predicate bind.TypeMismatch spelled is
+  prune-unbound predicate bind.NarrowingCast spelled other is = prune-refuses predicate bind.NarrowingCast spelled is
+  prune-unbound predicate bind.OutOfMemory spelled other is = absurd (other refl)
 
   -- memory ran out behind the opening
   pub prune-stopped : Gathers (commands.Prune p) source source files files_now (Err failures.OutOfMemory)

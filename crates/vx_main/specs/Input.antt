@@ -1,6 +1,5 @@
 -- The script that an input spells.
-use Rattle.std.specs.Prelude.{◌≡◌, ℕ, List, Some, Result, Ok, Err, Vec}
-use Rattle.std.specs.Global.{Global}
+use Rattle.std.specs.Prelude.{◌≡◌, ℕ, List, Some, Result, Ok, Err}
 use Rattle.vx_base.specs.Counts.{Rises}
 use Rattle.vx_base.specs.Streams.{SourceState}
 use Rattle.vx_file.specs.declared.step.Step.{Step}
@@ -24,8 +23,8 @@ abbrev pub BadLength : SourceState → SourceState → Type 0
 BadLength before now = (text : List ℕ) → before.rest ≡ Some text → TooLong text now
 
 -- what was taken of the input has its cause
-abbrev pub ScriptCause : SourceState → SourceState → Result (Vec Step Global) Failure → Type 0
-ScriptCause before now (Ok steps) = ReadsScript before now steps.items
+abbrev pub ScriptCause : SourceState → SourceState → Result (List Step) Failure → Type 0
+ScriptCause before now (Ok steps) = ReadsScript before now steps
 ScriptCause before now (Err (failures.Line line)) = BadLine line before now
 ScriptCause before now (Err failures.Input) = Rises 1 before.faults now.faults
 ScriptCause before now (Err failures.InputTooLong) = BadLength before now
@@ -39,8 +38,8 @@ script_failure (Line line) = failures.Line line
 script_failure OutOfMemory = failures.OutOfMemory
 
 -- what reading a script from a text gave has its cause
-abbrev pub StepsCause : List ℕ → Result (Vec Step Global) Failure → Type 0
-StepsCause text (Ok steps) = script_of text ≡ Ok steps.items
+abbrev pub StepsCause : List ℕ → Result (List Step) Failure → Type 0
+StepsCause text (Ok steps) = script_of text ≡ Ok steps
 StepsCause text (Err (failures.Line line)) = script_of text ≡ Err line
 StepsCause text (Err failures.OutOfMemory) = Unit {0}
 StepsCause text (Err _) = ⊥

@@ -1,7 +1,6 @@
 -- The script that a text spells: one step a line.
-use Rattle.std.specs.Prelude.{◌+◌, ◌^◌, ◌≡◌, ◌++◌, ℕ, codes, ◌==◌, nat_lt, if◌then◌else◌, List, [], ◌∷◌, Option, Some, None, Result, Ok, Err, Vec}
+use Rattle.std.specs.Prelude.{◌+◌, ◌^◌, ◌≡◌, ◌++◌, ℕ, codes, ◌==◌, nat_lt, if◌then◌else◌, List, [], ◌∷◌, Option, Some, None, Result, Ok, Err}
 use Rattle.std.specs.Str.{bytes_eq}
-use Rattle.std.specs.declared.alloc.Global.{Global}
 use Rattle.vx_main.specs.declared.script.ScriptError.{ScriptError}
 use Rattle.vx_main.specs.declared.script.ScriptError.TheVariants.{Line, OutOfMemory}
 use Rattle.vx_file.specs.declared.Step.{Step}
@@ -72,8 +71,8 @@ abbrev pub Fails : ScriptError → Result (List Step) ℕ → Type 0
 Fails OutOfMemory script = Unit {0}
 Fails (Line number) script = script ≡ Err number
 
-abbrev pub Reads : Result (Vec Step Global) ScriptError → Result (List Step) ℕ → Type 0
-Reads (Ok steps) script = script ≡ Ok steps.items
+abbrev pub Reads : Result (List Step) ScriptError → Result (List Step) ℕ → Type 0
+Reads (Ok steps) script = script ≡ Ok steps
 Reads (Err error) script = Fails error script
 
 -- more steps after these, where the rest could be read

@@ -10,12 +10,14 @@ use crate::failure::Failure;
 use crate::script::{self, ScriptError};
 use std::alloc::{AllocError, Global};
 use vx_base::Source;
-use vx_file::Step;
+use vx_file::Script;
 
 /// The most bytes that an input may have.
 pub const MOST_INPUT: usize = 67_108_864;
 
-const PIECE: usize = 65_536;
+/// How many bytes are taken at once. It is no power of two, since the room of a text doubles: that of a long one would
+/// be just the most that the C library keeps to itself when it is freed, and what is made later would lie in fresh memory.
+const PIECE: usize = 64_512;
 
 /// Why an input was not read.
 #[derive(Clone, Copy, Debug, PartialEq, Eq)]
@@ -98,11 +100,11 @@ fn failure_of<'a>(error: ScriptError) -> Failure<'a>
 }
 
 /// The steps of a script.
-fn steps_of<'a>(alloc: Global, text: &[u8]) -> Result<Vec<Step>, Failure<'a>>
+fn steps_of<'a>(alloc: Global, text: &[u8]) -> Result<Script, Failure<'a>>
     ensures { StepsCause text.now result }
 {
     match script::read(alloc, text) {
-        Ok(steps) => Ok(steps),
+        Ok(script) => Ok(script),
         Err(error) => Err(failure_of(error)),
     }
 }
@@ -111,7 +113,7 @@ fn steps_of<'a>(alloc: Global, text: &[u8]) -> Result<Vec<Step>, Failure<'a>>
 pub(crate) fn load_script<'a, I: Source>(
     alloc: Global,
     input: &mut I,
-) -> Result<Vec<Step>, Failure<'a>>
+) -> Result<Script, Failure<'a>>
     ensures cause { ScriptCause (I.state input.old) (I.state input.new) result }
     ensures steady { (I.state input.old).never_fails ≡ true → (I.state input.new).faults ≡ (I.state input.old).faults }
     ensures same { SameSource (I.state input.old) (I.state input.new) }

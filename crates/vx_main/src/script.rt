@@ -5,8 +5,8 @@ ghost use Rattle.vx_main.specs.Numbers.{number_of};
 ghost use Rattle.vx_main.specs.Script.{register_of, poll_of, drop_of, numbered_step, step_of, lines_of, line_length, script_of, Reads};
 
 use crate::numbers::number;
-use std::alloc::{AllocError, AllocFailed, Global};
-use vx_file::Step;
+use std::alloc::{AllocError, Global};
+use vx_file::{Script, Step};
 
 /// Why a script could not be read.
 #[derive(Clone, Copy, Debug, PartialEq, Eq)]
@@ -16,12 +16,12 @@ pub enum ScriptError {
     OutOfMemory,
 }
 
-impl<T: Drop> From<AllocFailed<T>> for ScriptError {
+impl From<AllocError> for ScriptError {
     ghost use Rattle.vx_main.specs.declared.script.ScriptError.TheVariants.{OutOfMemory};
 
     ghost from_gives = { λ _ e. e ≡ OutOfMemory };
 
-    fn from(_failed: AllocFailed<T>) -> ScriptError {
+    fn from(_error: AllocError) -> ScriptError {
         ScriptError::OutOfMemory
     }
 }
@@ -131,12 +131,10 @@ fn most_lines(text: &[u8]) -> usize
 }
 
 /// The steps of a script, a line each. Refuses the first line that is no step.
-pub fn read(alloc: Global, text: &[u8]) -> Result<Vec<Step>, ScriptError>
+pub fn read(alloc: Global, text: &[u8]) -> Result<Script, ScriptError>
     ensures { Reads result (script_of text.now) }
 {
-    let Ok(mut steps) = Vec::with_capacity(alloc, most_lines(text)) else {
-        return Err(ScriptError::OutOfMemory);
-    };
+    let mut script = Script::with_capacity(alloc, most_lines(text))?;
     let mut rest = text;
     let mut line = 0u64;
     while !rest.is_empty() {
@@ -145,8 +143,8 @@ pub fn read(alloc: Global, text: &[u8]) -> Result<Vec<Step>, ScriptError>
         let Some(next) = step(&rest[..end]) else {
             return Err(ScriptError::Line(line));
         };
-        steps.push(next)?;
+        script.push(next)?;
         rest = after_line(rest, end);
     }
-    Ok(steps)
+    Ok(script)
 }

@@ -15,7 +15,7 @@ use crate::reading::Reading;
 use crate::row_type::RowType;
 use std::alloc::Global;
 use vx_base::{NoCache, Opener, OpenerError, Reader, SegmentCache};
-use vx_file::{ServeError, ServeOptions, Served, Step, serve};
+use vx_file::{Script, ServeError, ServeOptions, Served, serve_script};
 
 /// Serves a script by a reader, over a cache that never fails.
 #[tactic(auto, using(crate::proofs::Openings::is_sized, crate::proofs::Openings::is_own_footer))]
@@ -24,7 +24,7 @@ fn serve_reader<'a, R: Reader, C: SegmentCache>(
     options: ServeOptions,
     cache: &mut C,
     reader: &mut R,
-    script: &[Step],
+    script: &Script,
 ) -> Result<Served, Failure<'a>>
     requires never { (C.state cache.old).never_fails ≡ true }
     requires none { (C.state cache.old).faults ≡ 0 }
@@ -37,7 +37,7 @@ fn serve_reader<'a, R: Reader, C: SegmentCache>(
     ensures same { SameReader (R.state reader.old) (R.state reader.new) }
     ensures still { (C.state cache.new).faults ≡ 0 }
 {
-    match serve(alloc, options, cache, reader, script) {
+    match serve_script(alloc, options, cache, reader, script) {
         Ok(served) => Ok(served),
         Err(ServeError::Open(refusal)) => Err(Failure::Refused(refusal)),
         Err(ServeError::Fault(fault)) => Err(Failure::Read(fault)),
@@ -54,7 +54,7 @@ pub(crate) fn serve_name<'a, F: Opener, C: SegmentCache>(
     reading: &Reading,
     cache: &mut C,
     name: &'a str,
-    script: &[Step],
+    script: &Script,
 ) -> Result<Served, Failure<'a>>
     requires never { (C.state cache.old).never_fails ≡ true }
     requires none { (C.state cache.old).faults ≡ 0 }
@@ -87,6 +87,7 @@ pub(crate) fn open_name<'a, F: Opener>(
 {
     let options = dtype.options(alloc)?;
     let mut cache = NoCache;
+    let script = Script::new(alloc);
     serve_name(
         alloc,
         files,
@@ -94,6 +95,6 @@ pub(crate) fn open_name<'a, F: Opener>(
         &Reading::plain(),
         &mut cache,
         name.as_str(),
-        &[],
+        &script,
     )
 }

@@ -23,7 +23,7 @@ use std::alloc::{AllocError, Global};
 use std::marker::Model;
 use vx_base::{Alignment, ByteBuffer, Source};
 use vx_data::{DType, PType, VortexSession};
-use vx_file::{ServeError, Served, Step, serve_in_memory};
+use vx_file::{Script, ServeError, Served, serve_in_memory};
 use vx_rows::Column;
 use vx_write::VortexWriteOptions;
 
@@ -132,7 +132,7 @@ fn made_file<'a>(alloc: Global, values: &[i32]) -> Result<MadeFile, Failure<'a>>
 }
 
 /// Serves a script from the file of some values.
-fn demonstrate<'a>(alloc: Global, values: &[i32], script: &[Step]) -> Result<Served, Failure<'a>>
+fn demonstrate<'a>(alloc: Global, values: &[i32], script: &Script) -> Result<Served, Failure<'a>>
     ensures { DemoCause values.now script.now result }
 {
     let made = made_file(alloc, values)?;
@@ -171,7 +171,7 @@ impl Demo {
         ensures keeps { (files : OpenerState) → Keeps (commands.Demo self.now) (I.state input.old) (I.state input.new) files files }
     {
         let script = load_script(alloc, input)?;
-        let served = demonstrate(alloc, self.values.as_slice(), script.as_slice())?;
+        let served = demonstrate(alloc, self.values.as_slice(), &script)?;
         Ok(Answer::Served(Printable::new(alloc, served)?))
     }
 }

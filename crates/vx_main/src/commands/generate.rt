@@ -30,7 +30,7 @@ use std::alloc::{AllocError, Global};
 use std::marker::Model;
 use vx_base::{Alignment, ByteBuffer, Sequence};
 use vx_data::VortexSession;
-use vx_file::{ServeError, serve_in_memory};
+use vx_file::{Script, ServeError, serve_in_memory};
 use vx_footer::SizesError;
 use vx_write::{VortexWriteOptions, WriteSummary};
 
@@ -130,7 +130,7 @@ fn opening_of(alloc: Global, bytes: Vec<u8>) -> Result<Sequence<(u64, u64)>, All
     ensures { IfOk result (λ ranges. ranges ≡ tail_ranges no_hints bytes.items) }
 {
     let file = ByteBuffer::from_vec(alloc, bytes, Alignment::none())?;
-    match serve_in_memory(alloc, file, &[]) {
+    match serve_in_memory(alloc, file, &Script::new(alloc)) {
         Ok(served) => Ok(served.opening),
         Err(ServeError::OutOfMemory) => Err(AllocError),
         // The file is in the grammar.

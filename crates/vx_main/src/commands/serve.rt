@@ -23,7 +23,7 @@ use crate::serving::serve_name;
 use std::alloc::{AllocError, Global};
 use vx_base::{NoCache, Opener, Source};
 use vx_data::VortexSession;
-use vx_file::{ServeOptions, Served, Step};
+use vx_file::{Script, ServeOptions, Served};
 use vx_source::LruSegments;
 
 /// The arguments of `serve`: the size of the file and the type of its rows, where they are known, how many bytes the
@@ -201,7 +201,7 @@ impl<'a> Serve<'a> {
         &self,
         alloc: Global,
         files: &mut F,
-        script: &[Step],
+        script: &Script,
     ) -> Result<Served, Failure<'a>>
         ensures cause { FileCause (serve_hints self.now) (settings_by self.now.reading) (new_cache self.now.reading.kept) self.now.name script.now
             (F.state files.old) (F.state files.new) result }
@@ -249,7 +249,7 @@ impl<'a> Serve<'a> {
         ensures keeps { Keeps (commands.Serve self.now) (I.state input.old) (I.state input.new) (F.state files.old) (F.state files.new) }
     {
         let script = load_script(alloc, input)?;
-        let served = self.serve(alloc, files, script.as_slice())?;
+        let served = self.serve(alloc, files, &script)?;
         Ok(Answer::Served(Printable::new(alloc, served)?))
     }
 }

@@ -85,6 +85,10 @@ fn put_failed<S: Sink>(cause: &FailCause, text: &mut TextOut, out: &mut S)
 fn put_driven<S: Sink>(spans: &[Span], text: &mut TextOut, out: &mut S)
     ensures { Adds (line (codes "driven") (length spans.now ∷ []) ++ flat_map span_line spans.now) text.old (S.state out.old) text.new (S.state out.new) }
 {
+    if spans.is_empty() {
+        // most drives of a long script find nothing to read
+        return text.word(out, b"driven 0\n");
+    }
     put_line(b"driven", &[spans.len() as u64], text, out);
     put_spans(spans, text, out);
 }

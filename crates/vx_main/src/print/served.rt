@@ -10,7 +10,7 @@ use crate::print::words::{put_line, put_quoted};
 use crate::printable::Printable;
 use crate::text::TextOut;
 use vx_base::{Sequence, Sink};
-use vx_file::{MetadataValue, Reply};
+use vx_file::{MetadataValue, Replies};
 
 /// Adds the ranges that were asked, a line each.
 pub(crate) fn put_ranges<S: Sink>(ranges: &[(u64, u64)], text: &mut TextOut, out: &mut S)
@@ -21,11 +21,11 @@ pub(crate) fn put_ranges<S: Sink>(ranges: &[(u64, u64)], text: &mut TextOut, out
     }
 }
 
-fn put_replies<S: Sink>(replies: &[Reply], text: &mut TextOut, out: &mut S)
+fn put_replies<S: Sink>(replies: &Replies, text: &mut TextOut, out: &mut S)
     ensures { Adds (flat_map reply_text replies.now) text.old (S.state out.old) text.new (S.state out.new) }
 {
-    for reply in replies {
-        put_reply(reply, text, out);
+    for told in replies.iter() {
+        put_reply(told.reply(), text, out);
     }
 }
 
@@ -67,5 +67,5 @@ pub(crate) fn put_served<S: Sink>(printable: &Printable, text: &mut TextOut, out
     put_footer(&served.footer, printable.dtype(), text, out);
     put_loaded(&served.metadata, text, out);
     put_ranges(served.opening.as_slice(), text, out);
-    put_replies(served.replies.as_slice(), text, out);
+    put_replies(&served.replies, text, out);
 }

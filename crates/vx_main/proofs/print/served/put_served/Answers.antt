@@ -10,5 +10,5 @@ returns g c =
     let footer = adds-same (ap (λ s. footer_text s.footer.content) c.served-served.ensures) c.put_footer.ensures in
     let values = adds-same (ap (λ s. values_text s.metadata) c.served-served.ensures) c.put_loaded.ensures in
     let ranges = adds-same (ap (flat_map read_line) (c.as_slice.ensures ∙ ap (λ s. s.opening) c.served-served.ensures)) c.put_ranges.ensures in
-    let replies = adds-same (ap (flat_map reply_text) (c.as_slice-2.ensures ∙ ap (λ s. s.replies) c.served-served.ensures)) c.put_replies.ensures in
+    let replies = adds-same (ap (λ s. flat_map reply_text s.replies) c.served-served.ensures) c.put_replies.ensures in
     adds_then (adds_then (adds_then footer values) ranges) replies

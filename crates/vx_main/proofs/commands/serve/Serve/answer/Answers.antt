@@ -1,10 +1,7 @@
 use Rattle.std.proofs.Common.{rules, ◌≡◌, Ok, Err, subst, sym}
 use Rattle.vx_main.specs.declared.answer.Answer.TheVariants as answers
 use Rattle.vx_main.specs.declared.command.Command.TheVariants as commands
-use Rattle.vx_main.specs.Command.{serve_hints}
-use Rattle.vx_main.specs.Reading.{settings_by, new_cache}
 use Rattle.vx_main.specs.Runs.{Gathers}
-use Rattle.vx_main.specs.Served.{FileCause}
 use Rattle.vx_main.proofs.Arms.{serve-answers, serve-fails}
 use Rattle.vx_main.proofs.commands.serve.Serve.answer.Goals as goal
 
@@ -15,9 +12,8 @@ returns-clause-gathers g c =
     let files = g.F.Opener.state c.args.files.now in
     let files_now = g.F.Opener.state c.serve.new.files in
     let s = c.args.self.now in
-    let cause = subst (λ steps. FileCause (serve_hints s) (settings_by s.reading) (new_cache s.reading.kept) s.name steps files files_now (Ok c.in_ok-served.served)) c.as_slice.ensures.value c.in_ok-served.ensures.cause in
     subst (λ p. Gathers (commands.Serve s) source source_now files files_now (Ok (answers.Served p))) (sym c.in_ok-new.ensures)
-    (serve-answers s c.in_ok-script.script.items source source_now files files_now c.in_ok-served.served c.in_ok-script.ensures.cause cause)
+    (serve-answers s c.in_ok-script.script source source_now files files_now c.in_ok-served.served c.in_ok-script.ensures.cause c.in_ok-served.ensures.cause)
 
 pub returns-in_err-served-clause-gathers : goal.returns-in_err-served-clause-gathers
 returns-in_err-served-clause-gathers g c =
@@ -28,5 +24,4 @@ returns-in_err-served-clause-gathers g c =
     let s = c.args.self.now in
     let e = c.in_err-served.field-0.0 in
     let is : c.from_residual-in_err-served.result ≡ Err e = search rules in
-    let cause = subst (λ steps. FileCause (serve_hints s) (settings_by s.reading) (new_cache s.reading.kept) s.name steps files files_now (Err e)) c.as_slice.ensures.value c.in_err-served.ensures.cause in
-    rw is (serve-fails s c.in_ok-script.script.items source source_now files files_now e c.in_ok-script.ensures.cause cause)
+    rw is (serve-fails s c.in_ok-script.script source source_now files files_now e c.in_ok-script.ensures.cause c.in_err-served.ensures.cause)
