@@ -19,7 +19,8 @@ fn print_first<S: Sink>(rt: &HostRuntime, path: &str, out: &mut S) -> Result<(),
         .ok()
         .ok_or("not served")?;
     files.take_back(alloc, path, reader)?;
-    if let Some(Reply::Ready(bytes)) = served.replies.as_slice().last() {
+    let last = served.replies.iter().last().ok_or("no reply")?;
+    if let Reply::Ready(bytes) = last.reply() {
         let text = hex::encode(alloc, bytes.as_slice())?;
         write_flushed(alloc, out, text.as_bytes())
             .ok()

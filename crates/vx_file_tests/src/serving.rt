@@ -6,7 +6,8 @@ use vx_base::{
 };
 use vx_data::VortexSession;
 use vx_file::{
-    FailCause, OpenOptionsSessionExt, Reply, ServeError, ServeOptions, Served, Step, serve,
+    FailCause, OpenOptionsSessionExt, Reply, Script, ServeError, ServeOptions, Served, Step, serve,
+    serve_script,
 };
 use vx_footer::{DeserializeStep, Footer, OpenError};
 use vx_sched::Place;
@@ -65,19 +66,22 @@ fn is_told(reply: &Reply, told: &str) -> bool {
         Reply::Failed(FailCause::Fault(_)) => told == "failed",
         Reply::Driven(spans) => match spans.as_slice() {
             [span] => told == "driven" && span.start == 8 && span.end == 26,
+            [] => told == "idle",
             _ => false,
         },
-        _ => false,
+        Reply::MissingSegment => told == "missing",
+        Reply::Dropped => told == "dropped",
+        Reply::NotLive => told == "not-live",
+        Reply::Failed(FailCause::Cache) => false,
     }
 }
 
 fn are_told(served: &Served, told: &[&str]) -> bool {
-    let replies = served.replies.as_slice();
-    if replies.len() != told.len() {
+    if served.replies.len() != told.len() {
         return false;
     }
-    for (reply, told) in replies.iter().zip(told) {
-        if !is_told(reply, told) {
+    for (reply, told) in served.replies.iter().zip(told) {
+        if !is_told(reply.reply(), told) {
             return false;
         }
     }
@@ -100,6 +104,40 @@ fn a_supplied_footer_needs_no_opening(rt: HostRuntime) -> Result<(), Fail> {
     let small = knowing(alloc, &file)?.with_some_file_size(Some(25));
     let refused = serve(alloc, small, &mut NoCache, &mut known, &[]).err();
     assert!(rt; refused == Some(ServeError::Open(OpenError::PastEnd)));
+    Ok(())
+}
+
+#[test]
+fn a_script_in_few_bytes_keeps_each_step_and_is_served(rt: HostRuntime) -> Result<(), Fail> {
+    let alloc = rt.alloc();
+    let table = [
+        (Step::Register(0), "registered"),
+        (Step::Poll(0), "pending"),
+        (Step::Poll(u64::MAX), "not-live"),
+        (Step::Drop(5_000_000_000), "not-live"),
+        (Step::Drive, "driven"),
+        (Step::Drive, "idle"),
+        (Step::Register(u32::MAX), "missing"),
+        (Step::Poll(0), "ready"),
+        (Step::Register(0), "registered"),
+        (Step::Drop(1), "dropped"),
+    ];
+    let mut script = Script::with_capacity(alloc, 1)?;
+    let mut told = Vec::new(alloc);
+    for (step, reply) in table {
+        script.push(step)?;
+        told.push(reply)?;
+    }
+    for (kept, (step, _)) in script.iter().zip(&table) {
+        assert!(rt; kept == *step);
+    }
+    let file = file_of_four(alloc)?;
+    let mut known = reader(alloc, &file, Vec::new(alloc))?;
+    let options = knowing(alloc, &file)?;
+    let served = serve_script(alloc, options, &mut NoCache, &mut known, &script)
+        .ok()
+        .ok_or("refused")?;
+    assert!(rt; are_told(&served, told.as_slice()));
     Ok(())
 }
 
