@@ -14,7 +14,7 @@ use crate::{Replies, Script, ServeError, ServeOptions, Served, Step};
 use std::alloc::Global;
 use vx_base::{Reader, SegmentCache};
 
-/// The same for steps that are taken one after another, of which there are so many.
+/// Opens a file and answers steps that are taken one after another, of which there are so many, as `serve` says.
 fn serve_steps<R: Reader, C: SegmentCache>(
     alloc: Global,
     options: ServeOptions,
@@ -103,7 +103,7 @@ pub fn serve<R: Reader, C: SegmentCache>(
     )
 }
 
-/// The same for a script that is kept in few bytes.
+/// Serves a script that is kept in few bytes, as `serve` does one of a slice.
 pub fn serve_script<R: Reader, C: SegmentCache>(
     alloc: Global,
     options: ServeOptions,
