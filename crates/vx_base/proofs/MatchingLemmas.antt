@@ -7,7 +7,7 @@ use Rattle.std.proofs.lemmas.Option.{slice_get_read, slice_get_past}
 use Rattle.std.proofs.lemmas.List.Folds.{find_at}
 use Rattle.std.specs.Option.{option_map}
 use Rattle.std.specs.List.{position_or_len}
-use Rattle.vx_base.specs.Asking.{Log, logged, names, without_first, without_answer, mark_of, mark_of_answer}
+use Rattle.vx_base.specs.Asking.{Log, logged, faulted, names, answer_to, without_first, without_answer, mark_of, mark_of_answer, mark_of_result}
 use Rattle.vx_base.specs.Outlines.{outline_of, mark_of_outline}
 use Rattle.vx_base.specs.declared.answer.ReadAtRequest.{ReadAtRequest}
 use Rattle.vx_base.specs.declared.answer.RangeAnswer.{RangeAnswer}
@@ -89,3 +89,12 @@ logged_outlines-map (r ∷ rest) answers =
     let left = without_first-map (names r) outline_of answers in
     let others : logged_outlines rest (without_first (names r) (map outline_of answers)) ≡ logged rest (without_answer r answers) = ap (logged_outlines rest) left ∙ logged_outlines-map rest (without_answer r answers) in
     cc (marks, others)
+
+-- a range whose answer comes first and is whole adds no fault
+pub whole-step : (r : ReadAtRequest) (rest : List ReadAtRequest) (a : RangeAnswer Buffer) (others : List (RangeAnswer Buffer)) → names r a ≡ true → mark_of_result r.length a.result ≡ None
+    → faulted (logged (r ∷ rest) (a ∷ others)) ≡ faulted (logged rest others)
+whole-step r rest a others named whole =
+    let found : answer_to r (a ∷ others) ≡ Some a = rw named refl in
+    let left : without_answer r (a ∷ others) ≡ others = rw named refl in
+    let mark : mark_of r (a ∷ others) ≡ None = ap (mark_of_answer r.length) found ∙ whole in
+    rw (mark, left) refl

@@ -3,7 +3,7 @@ ghost use Rattle.std.specs.Prelude.{◌≡◌};
 
 use crate::{
     ByteBuffer, CloneError, Failed, Opener, OpenerError, RangeAnswer, ReadAtRequest, Reader,
-    count_faulted, log_answers,
+    are_whole, count_faulted, log_answers,
 };
 use std::alloc::{AllocError, Global};
 use std::fs;
@@ -128,6 +128,9 @@ impl Reader for FileReader {
         let mut answers = Vec::new(alloc);
         for range in asked {
             answers.push(self.answer(alloc, range)?)?;
+        }
+        if are_whole(asked, answers.as_slice()) {
+            return Ok(answers);
         }
         let gained = log_answers(alloc, asked, answers.as_slice())?;
         let faulted = count_faulted(gained.as_slice()) as u64;

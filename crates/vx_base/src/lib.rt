@@ -30,7 +30,7 @@ pub use answer::{Asked, RangeAnswer, ReadAtRequest};
 pub use buffer::ByteBuffer;
 pub use fault::{CloneError, Failed, FaultKind, OpenerError, SinkError};
 pub use file_reader::{FileOpener, FileReader};
-pub use matching::{count_faulted, log_answers, take_answer};
+pub use matching::{are_whole, count_faulted, log_answers, take_answer};
 pub use mem_cache::MemCache;
 pub use mem_opener::MemOpener;
 pub use mem_reader::MemReader;

@@ -1,6 +1,6 @@
 //! Answers matched to ranges: each range gets the first answer left that names it.
-ghost use Rattle.std.specs.Prelude.{◌≡◌, map, position, IfOk};
-ghost use Rattle.vx_base.specs.Asking.{logged, names, answer_to, without_answer, same_range, ranges_of, faulted};
+ghost use Rattle.std.specs.Prelude.{◌≡◌, map, position, true, None, IfOk};
+ghost use Rattle.vx_base.specs.Asking.{logged, names, answer_to, without_answer, same_range, mark_of_result, ranges_of, faulted};
 ghost use Rattle.vx_base.specs.Outlines.{outline_of, mark_of_outline};
 
 use crate::{Asked, Failed, FaultKind, RangeAnswer, ReadAtRequest};
@@ -95,6 +95,35 @@ pub fn log_answers(
         })?;
     }
     Ok(log)
+}
+
+// Whether an answer names a range and has the bytes of its length.
+fn is_whole(range: &ReadAtRequest, answer: &RangeAnswer) -> bool
+    ensures names { result ≡ true → names range.now answer.now ≡ true }
+    ensures whole { result ≡ true → mark_of_result range.now.length answer.now.result ≡ None }
+{
+    if !is_same(range, &answer.request) {
+        return false;
+    }
+    match &answer.result {
+        Ok(buffer) => buffer.len() == range.length,
+        Err(_) => false,
+    }
+}
+
+/// Whether answers name ranges in their order, each with the bytes of its length. Then none of these is at fault.
+pub fn are_whole(asked: &[ReadAtRequest], answers: &[RangeAnswer]) -> bool
+    ensures { result ≡ true → faulted (logged asked.now answers.now) ≡ 0 }
+{
+    for at in 0..asked.len() {
+        let Some(answer) = answers.get(at) else {
+            return false;
+        };
+        if !is_whole(&asked[at], answer) {
+            return false;
+        }
+    }
+    true
 }
 
 /// How many ranges of a log got no bytes of their length.

@@ -150,4 +150,8 @@ impl SegmentCache for MemCache {
         }
         Ok(())
     }
+
+    fn forgets_puts(&self) -> bool {
+        false
+    }
 }

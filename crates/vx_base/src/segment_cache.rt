@@ -1,5 +1,5 @@
 //! The trait of caches of segments, and the cache that holds nothing.
-ghost use Rattle.std.specs.Prelude.{◌≡◌};
+ghost use Rattle.std.specs.Prelude.{◌≡◌, true, None};
 ghost use Rattle.vx_base.specs.Caches.{CacheState, SameCache, GetCause, PutCause, nothing_held};
 
 use crate::{ByteBuffer, SegmentId};
@@ -40,6 +40,11 @@ pub trait SegmentCache: Sized + Drop {
     fn put(&mut self, alloc: Global, id: SegmentId, buffer: ByteBuffer) -> Result<(), CacheError>
         ensures cause { PutCause id buffer (state self.old) (state self.new) result }
         ensures same { SameCache (state self.old) (state self.new) };
+
+    /// Whether puts may be left out, since it tells none of them and never gives an entry.
+    fn forgets_puts(&self) -> bool
+        ensures untold { result ≡ true → (state self.now).puts ≡ None }
+        ensures nothing { result ≡ true → (state self.now).never_gives ≡ true };
 }
 
 /// A cache that holds nothing, forgets what is put, and never fails.
@@ -62,5 +67,9 @@ impl SegmentCache for NoCache {
     ) -> Result<(), CacheError> {
         let _ = alloc;
         Ok(())
+    }
+
+    fn forgets_puts(&self) -> bool {
+        true
     }
 }
