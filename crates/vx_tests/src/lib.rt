@@ -9,14 +9,8 @@ mod data;
 #[cfg(test)]
 mod footers;
 #[cfg(test)]
-mod merging;
-#[cfg(test)]
 mod postscripts;
 #[cfg(test)]
-mod scheduler;
-#[cfg(test)]
 mod serializers;
-#[cfg(test)]
-mod sessions;
 #[cfg(test)]
 mod tables;
