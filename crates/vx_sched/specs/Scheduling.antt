@@ -46,6 +46,10 @@ MergesNow s span = MergesFrom s (waiting_at s.reads) (polled_at s.reads) span
 abbrev pub NonePolled : Reads → Type 0
 NonePolled reads = (id : ℕ) → polled_at reads id ≡ false
 
+-- a read is polled
+abbrev pub IsSomePolled : Reads → Type 0
+IsSomePolled reads = (id : ℕ) × (polled_at reads id ≡ true)
+
 -- the numbers rise and lie below the next one
 pub record IsOrdered (s : Scheduler) : Type 0 where
   pub rise : Rise 0 s.reads

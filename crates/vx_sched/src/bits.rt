@@ -3,6 +3,7 @@ ghost use Rattle.std.specs.Prelude.{◌≡◌, ℕ, ◌<◌, ◌≤◌, ◌==◌
 ghost use Rattle.std.specs.Int.{bit_at};
 
 /// A word whose bit at a place is set or cleared.
+#[inline(always)]
 pub fn with_bit(word: u64, place: u64, is_set: bool) -> u64
     requires { place < 64 }
     ensures { (i : ℕ) → i < 64 → bit_at result i ≡ cond (place == i) (cond is_set 1 0) (bit_at word i) }

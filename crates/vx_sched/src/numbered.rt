@@ -62,6 +62,7 @@ fn search<V>(slots: &[Slot<V>], number: u64) -> usize
 
 /// The same, found at once behind all slots, or where the number would stand if there were no gaps.
 #[tactic(auto, using(crate::proofs::NumberedLemmas::low_below, crate::proofs::NumberedLemmas::hit_above, crate::proofs::NumberedLemmas::hit_below, crate::proofs::NumberedLemmas::none_past))]
+#[inline(always)]
 pub fn place_of<V>(slots: &[Slot<V>], number: u64) -> usize
     requires { RiseFrom 0 slots.now }
     ensures within { result ≤ length slots.now }
@@ -83,6 +84,7 @@ pub fn place_of<V>(slots: &[Slot<V>], number: u64) -> usize
 }
 
 /// Where the slot of a number stands, or else where it would stand.
+#[inline(always)]
 fn look<V>(slots: &[Slot<V>], number: u64) -> Result<usize, usize>
     requires { RiseFrom 0 slots.now }
     ensures found { IfOk result (IsSlot slots.now number) }
@@ -100,6 +102,7 @@ fn look<V>(slots: &[Slot<V>], number: u64) -> Result<usize, usize>
 }
 
 /// The value of a slot.
+#[inline(always)]
 fn value_at<V: Copy>(slots: &[Slot<V>], at: usize) -> Option<V>
     requires { at < length slots.now }
     ensures { (x : Slot V) → slice_get slots.now at ≡ Some x → result ≡ x.value }
@@ -108,6 +111,7 @@ fn value_at<V: Copy>(slots: &[Slot<V>], at: usize) -> Option<V>
 }
 
 /// Gives a slot another value, or none.
+#[inline(always)]
 fn set_value<V: Copy>(slots: &mut Vec<Slot<V>>, at: usize, value: Option<V>)
     requires { at < length slots.old.items }
     ensures { (x : Slot V) → slice_get slots.old.items at ≡ Some x →
@@ -151,7 +155,18 @@ impl<V: Copy> Numbered<V> {
         }
     }
 
+    /// No value, with room for so many. Only memory refuses.
+    pub fn with_room(alloc: Global, count: usize) -> Result<Numbered<V>, AllocError>
+        ensures { IfOk result (λ numbered. numbered ≡ []) }
+    {
+        Ok(Numbered {
+            slots: Vec::with_capacity(alloc, count)?,
+            empty: 0,
+        })
+    }
+
     /// The value of a number.
+    #[inline(always)]
     pub fn get(&self, number: u64) -> Option<V>
         ensures { result ≡ lookup (is_at (nat_cmp number)) self.now }
     {
@@ -162,6 +177,7 @@ impl<V: Copy> Numbered<V> {
     }
 
     /// Gives a number a value, in the place of the one that it has. Only memory refuses, and only a number without one.
+    #[inline(always)]
     pub fn put(&mut self, number: u64, value: V) -> Result<(), AllocError>
         ensures ok { OnOk result (self.new ≡ insert_entry nat_cmp self.old number value) }
         ensures lookups { OnOk result ((q : ℕ) → lookup (is_at (nat_cmp q)) self.new

@@ -76,11 +76,11 @@ fn clear(places: &mut Vec<(u64, u64)>, reads: &Numbered<Read>)
     places.retain(|place| is_waiting(reads, place.1));
 }
 
-/// Puts new places in order.
+/// Puts new places in the order of their offsets.
 fn sort_new(places: &mut Vec<(u64, u64)>)
     ensures { (k : ℕ × ℕ) → has_place places.new.items k ≡ has_place places.old.items k }
 {
-    places.sort_unstable();
+    places.sort_unstable_by_key(|place| place.0);
 }
 
 /// Moves new places to others. Only memory refuses.

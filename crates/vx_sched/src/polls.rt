@@ -28,6 +28,7 @@ impl Model for Polls {
 }
 
 /// The word of a block of numbers, which is 0 where there is none.
+#[inline(always)]
 fn word_of(words: &Numbered<u64>, block: u64) -> u64
     ensures { result ≡ word_at words.now block }
 {
@@ -51,17 +52,20 @@ fn open_word(words: &mut Numbered<u64>, block: u64) -> Result<(), AllocError>
     Ok(())
 }
 
-/// Sets or clears the bit of a number in the word of its block.
-fn set_bit(words: &mut Numbered<u64>, number: u64, is_set: bool)
-    requires { has_room words.old number ≡ true }
+/// Sets or clears the bit of a number in the word of its block, and gives what that is then.
+#[inline(always)]
+fn set_bit(words: &mut Numbered<u64>, number: u64, word: u64, is_set: bool) -> u64
+    requires room { has_room words.old number ≡ true }
+    requires word { word ≡ word_at words.old (number / 64) }
+    ensures word { result ≡ word_at words.new (number / 64) }
     ensures bits { (n : ℕ) → is_raised words.new n ≡ cond (number == n) is_set (is_raised words.old n) }
     ensures others { (b : ℕ) → (number / 64 == b) ≡ false → word_at words.new b ≡ word_at words.old b }
     ensures kept { (b : ℕ) → has_word words.new b ≡ has_word words.old b }
 {
     let block = number / 64;
-    let word = with_bit(word_of(words, block), number % 64, is_set);
+    let word = with_bit(word, number % 64, is_set);
     match words.put(block, word) {
-        Ok(()) => {}
+        Ok(()) => word,
         Err(_) => unreachable!(),
     }
 }
@@ -149,17 +153,19 @@ impl Polls {
     }
 
     /// Says whether a number is polled.
+    #[inline(always)]
     pub fn put(&mut self, number: u64, is_polled: bool)
         requires { has_room self.old number ≡ true }
         ensures bits { (n : ℕ) → is_raised self.new n ≡ cond (number == n) is_polled (is_raised self.old n) }
         ensures kept { (n : ℕ) → has_room self.old n ≡ true → has_room self.new n ≡ true }
     {
         let block = number / 64;
-        let had_polled = word_of(&self.words, block) != 0;
-        set_bit(&mut self.words, number, is_polled);
-        let has_polled = word_of(&self.words, block) != 0;
-        if has_polled != had_polled {
-            set_bit(&mut self.groups, block, has_polled);
+        let before = word_of(&self.words, block);
+        let after = set_bit(&mut self.words, number, before, is_polled);
+        let has_polled = after != 0;
+        if has_polled != (before != 0) {
+            let group = word_of(&self.groups, block / 64);
+            set_bit(&mut self.groups, block, group, has_polled);
         }
     }
 

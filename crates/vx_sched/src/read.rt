@@ -31,6 +31,7 @@ pub enum Stage {
 }
 
 /// The stage of a read in flight in a span of so many reads.
+#[inline(always)]
 fn in_flight(span: u64, size: usize, dropped: bool) -> Stage
     ensures { result ≡ Stage.InFlight span size dropped }
 {
@@ -98,6 +99,7 @@ impl Model for Read {
 
 impl Read {
     /// A read in a stage.
+    #[inline(always)]
     pub fn new(request: ReadRequest, stage: Stage) -> Read
         ensures { result ≡ record { request = request; stage = stage } }
     {
@@ -129,6 +131,7 @@ impl Read {
     }
 
     /// What was asked.
+    #[inline(always)]
     pub fn request(&self) -> ReadRequest
         ensures { result ≡ self.now.request }
     {
@@ -141,6 +144,7 @@ impl Read {
     }
 
     /// The stage that it is in.
+    #[inline(always)]
     pub fn stage(&self) -> Stage
         ensures { result ≡ self.now.stage }
     {
@@ -166,6 +170,7 @@ pub enum Change {
 }
 
 /// The stage of a read after a change, or that it is gone.
+#[inline(always)]
 pub fn stage_after(change: Change, stage: Stage) -> Option<Stage>
     ensures { result ≡ after change stage }
 {
@@ -214,6 +219,7 @@ impl Stage {
         }
     }
 
+    #[inline(always)]
     pub fn is_waiting(&self) -> bool
         ensures { result ≡ waits_in self.now }
     {
@@ -223,6 +229,7 @@ impl Stage {
         }
     }
 
+    #[inline(always)]
     pub fn is_polled(&self) -> bool
         ensures { result ≡ polled_in self.now }
     {

@@ -6,7 +6,7 @@ ghost use Rattle.vx_sched.specs.Merging.{raised, Merges, is_listed, same_span};
 ghost use Rattle.vx_sched.specs.Picks.{free_at};
 ghost use Rattle.vx_sched.specs.Counting.{counts_of, count_in};
 ghost use Rattle.vx_sched.specs.Law.{IsSound};
-ghost use Rattle.vx_sched.specs.Scheduling.{SameSettings, span_at, IsInFlight, AllInFlight, AreApart, MayHappen, stepped, requested, polled, dropped, takes_no_memory, MayTake, MergesNow, MergesInTurn, NonePolled, taken, all_taken, resolved, all_resolved, settled};
+ghost use Rattle.vx_sched.specs.Scheduling.{SameSettings, span_at, IsInFlight, AllInFlight, AreApart, MayHappen, stepped, requested, polled, dropped, takes_no_memory, MayTake, MergesNow, MergesInTurn, NonePolled, IsSomePolled, taken, all_taken, resolved, all_resolved, settled};
 ghost use Rattle.vx_sched.specs.Chain.{waiting_after, polled_after, IsLeft};
 ghost use Rattle.vx_sched.specs.declared.read.ReadState.TheVariants.{Polled};
 
@@ -90,7 +90,38 @@ impl State {
         }
     }
 
+    /// The same, with room for so many reads. Only memory refuses.
+    pub fn with_room(
+        alloc: Global,
+        distance: Option<u64>,
+        max_read_size: Option<u64>,
+        alignment: Alignment,
+        concurrency: usize,
+        count: usize,
+    ) -> Result<State, AllocError>
+        requires { 1 ≤ concurrency }
+        ensures value { IfOk result (λ state. state ≡ record {
+          distance = distance;
+          limit = option_map (raised alignment) max_read_size;
+          alignment = alignment;
+          concurrency = concurrency;
+          reads = [];
+          next = 0;
+        }) }
+        ensures rests { IfOk result (λ state. ranges_in_flight state.reads ≡ 0) }
+    {
+        Ok(State {
+            gap: distance,
+            longest: raise(max_read_size, alignment),
+            aligned: alignment,
+            most: concurrency,
+            table: Table::with_room(alloc, distance.is_some(), count)?,
+            last: None,
+        })
+    }
+
     /// What a caller does. Only a new read takes memory.
+    #[inline(always)]
     pub fn on_event(&mut self, event: ReadEvent) -> Result<(), AllocError>
         requires { MayHappen self.old event }
         ensures step { OnOk result (self.new ≡ stepped self.old event) }
@@ -302,6 +333,14 @@ impl State {
         ensures sound { IsSound self.now }
     {
         self.most
+    }
+
+    /// Whether a read is polled.
+    pub fn has_polled(&self) -> bool
+        ensures some { result ≡ true → IsSomePolled self.now.reads }
+        ensures none { result ≡ false → NonePolled self.now.reads }
+    {
+        self.table.has_polled()
     }
 
     /// Where the read of a number stands, if there is one.

@@ -15,6 +15,7 @@ ghost use Rattle.vx_sched.specs.Kept.{Has, HaveAll, IsKept, Names};
 ghost use Rattle.vx_sched.specs.Picks.{is_among};
 ghost use Rattle.vx_sched.specs.Places.{AllFit, offset_of};
 ghost use Rattle.vx_sched.specs.Counting.{counts_of};
+ghost use Rattle.vx_sched.specs.Scheduling.{NonePolled, IsSomePolled};
 ghost use Rattle.vx_sched.specs.Polls.{has_room, is_raised, stays_polled, AreMarked};
 
 use crate::ReadRequest;
@@ -72,6 +73,7 @@ fn add(
 }
 
 /// Puts the read of a number, which is there, in another stage, or takes it out.
+#[inline(always)]
 fn put(reads: &mut Numbered<Read>, id: u64, request: ReadRequest, stage: Option<Stage>)
     requires { IsSome (entry_at reads.old id) }
     ensures entries { reads.new ≡ with_stage reads.old id request stage }
@@ -88,6 +90,7 @@ fn put(reads: &mut Numbered<Read>, id: u64, request: ReadRequest, stage: Option<
 }
 
 /// Says of a read that changed whether it left its place.
+#[inline(always)]
 fn leave(places: &mut Places, before: &Stage, after: Option<Stage>)
     ensures { HaveAll places.old places.new }
 {
@@ -125,6 +128,7 @@ fn next_of(polls: &Polls, from: u64, taken: &Taken) -> Option<u64>
 }
 
 /// Says of a read that changed whether it is polled.
+#[inline(always)]
 fn mark(polls: &mut Polls, id: u64, before: &Stage, after: Option<Stage>)
     requires raised { is_raised polls.old id ≡ polled_in before.now }
     requires room { has_room polls.old id ≡ true }
@@ -141,6 +145,7 @@ fn mark(polls: &mut Polls, id: u64, before: &Stage, after: Option<Stage>)
 }
 
 /// The entry of a number.
+#[inline(always)]
 fn entry(reads: &Numbered<Read>, id: u64) -> Option<Read>
     ensures { result ≡ entry_at reads.now id }
 {
@@ -214,6 +219,7 @@ fn if_state(found: Option<Read>) -> Option<ReadState>
 }
 
 /// Changes the read of a number, if there is one.
+#[inline(always)]
 fn change_entry(
     reads: &mut Numbered<Read>,
     places: &mut Places,
@@ -276,6 +282,19 @@ impl Table {
         }
     }
 
+    /// A table without reads, with room for so many. Only memory refuses.
+    pub fn with_room(alloc: Global, keeps_places: bool, count: usize) -> Result<Table, AllocError>
+        ensures { IfOk result (λ table. table ≡ []) }
+    {
+        let reads = Numbered::with_room(alloc, count)?;
+        Ok(Table {
+            reads,
+            places: Places::new(alloc, keeps_places),
+            polls: Polls::new(alloc),
+            longest: 0,
+        })
+    }
+
     /// Where the read of a number stands.
     pub fn state(&self, id: u64) -> Option<ReadState>
         ensures { result ≡ state_at self.now id }
@@ -291,6 +310,17 @@ impl Table {
     {
         let found = entry(&self.reads, id);
         if_waits(found)
+    }
+
+    /// Whether a read is polled.
+    pub fn has_polled(&self) -> bool
+        ensures some { result ≡ true → IsSomePolled self.now }
+        ensures none { result ≡ false → NonePolled self.now }
+    {
+        match self.polls.next(0) {
+            Some(_number) => true,
+            None => false,
+        }
     }
 
     /// The polled read of least number, from a number on, that is not among some.

@@ -17,7 +17,7 @@ use Rattle.vx_sched.specs.declared.request.ReadRequest.{ReadRequest}
 use Rattle.vx_source.specs.Blocks.{number_of, span_outcome, reports_of, cut_of, filed_good, filed_bad, filed_by, filed_of}
 use Rattle.vx_source.specs.History.{Moment, segment_of}
 use Rattle.vx_source.specs.Kept.{segment_at}
-use Rattle.vx_source.specs.Puts.{Gains, PutsBy, IsPut, put_at, puts_of, kept_of, missed, with_segment, segments_of, put_segments, put_by}
+use Rattle.vx_source.specs.Puts.{Gains, PutsBy, AreHanded, IsPut, put_at, puts_of, kept_of, missed, with_segment, segments_of, put_segments, put_by}
 use Rattle.vx_source.specs.Requests.{Filed, Request}
 use Rattle.vx_source.specs.declared.span.Span.{Span}
 use Rattle.vx_source.specs.declared.span.SpanOutcome.{SpanOutcome}
@@ -52,6 +52,42 @@ gains-none s = record {
   from = λ es fs q b e f is. inl (let same : Some es ≡ Some fs = sym e ∙ f in let equal : fs ≡ es = cc in subst (λ gs. buffer_of gs q ≡ Some b) equal is);
   tells = refl;
 }
+
+none-kept : (kept : List Bool) → length kept ≡ 0 → missed kept ≡ 0
+none-kept [] h = refl
+none-kept (k ∷ rest) h = absurd (omega (arith, h))
+
+-- all puts are kept
+abbrev pub all_kept : Segments → List Bool
+all_kept [] = []
+all_kept (p ∷ rest) = true ∷ all_kept rest
+
+all-length : (puts : Segments) → length (all_kept puts) ≡ length puts
+all-length [] = refl
+all-length (p ∷ rest) = let e = all-length rest in omega (arith, e)
+
+all-missed : (puts : Segments) → missed (all_kept puts) ≡ 0
+all-missed [] = refl
+all-missed (p ∷ rest) = all-missed rest
+
+-- a cache that tells no puts gains those that it was not handed
+pub gains-handed : (puts handed : Segments) (before now : CacheState) → AreHanded puts before handed → Gains handed before now → Gains puts before now
+gains-handed puts handed before now (inl is) g = subst (λ l. Gains l before now) is g
+gains-handed puts handed before now (inr left) g = subst (λ l. Gains l before now → Gains puts before now) (sym left.0) unhanded g
+  where
+    silent : (x : Option Segments) (l m : Segments) (y : Option Segments) → x ≡ None → y ≡ option_map (λ k. k ++ l) x → y ≡ option_map (λ k. k ++ m) x
+    silent None l m y e h = h
+    silent (Some x) l m y e h = cc
+
+    unhanded : Gains [] before now → Gains puts before now
+    unhanded h = record {
+      kept = all_kept puts;
+      size = all-length puts;
+      log = silent before.puts (kept_of h.kept []) (kept_of (all_kept puts) puts) now.puts left.1 h.log;
+      lost = subst (λ n. Rises n before.lost now.lost) (none-kept h.kept h.size ∙ sym (all-missed puts)) h.lost;
+      from = λ es fs q buffer e f is. elim (h.from es fs q buffer e f is) [ inl old ↦ inl old | inr put ↦ absurd put ];
+      tells = h.tells;
+    }
 
 kept-append : (ka kb : List Bool) (a b : Segments) → length ka ≡ length a → kept_of (ka ++ kb) (a ++ b) ≡ kept_of ka a ++ kept_of kb b
 kept-append [] kb [] b h = refl

@@ -21,6 +21,10 @@ abbrev pub puts_of : List Request → List Filed → Segments
 puts_of requests [] = []
 puts_of requests (f ∷ rest) = put_at (segment_at requests f.read) f.bytes ++ puts_of requests rest
 
+-- a cache is handed puts, or none of them where it tells no puts
+abbrev pub AreHanded : Segments → CacheState → Segments → Type 0
+AreHanded puts cache handed = (handed ≡ puts) ⊎ ((handed ≡ []) × (cache.puts ≡ None))
+
 -- those puts that were kept
 abbrev pub kept_of : List Bool → Segments → Segments
 kept_of [] puts = puts

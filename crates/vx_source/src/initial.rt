@@ -42,4 +42,8 @@ impl<C: SegmentCache> SegmentCache for InitialReadSegmentCache<C> {
     fn put(&mut self, alloc: Global, id: SegmentId, buffer: ByteBuffer) -> Result<(), CacheError> {
         self.fallback.put(alloc, id, buffer)
     }
+
+    fn forgets_puts(&self) -> bool {
+        self.initial.is_empty() && self.fallback.forgets_puts()
+    }
 }

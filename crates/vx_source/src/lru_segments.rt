@@ -124,4 +124,8 @@ impl SegmentCache for LruSegments {
             }
         }
     }
+
+    fn forgets_puts(&self) -> bool {
+        false
+    }
 }

@@ -12,7 +12,7 @@ ghost use Rattle.vx_source.specs.Asks.{Grew, asked_by, bad_spans};
 ghost use Rattle.vx_source.specs.Blocks.{file_reads, with_cores};
 ghost use Rattle.vx_source.specs.Bytes.{HasBytes, IsEnd, TellsSlices, IsEntry, IsTrueReply};
 ghost use Rattle.vx_source.specs.Drives.{IsTurned, IsLost, StopsDrive, WaitsWithin};
-ghost use Rattle.vx_source.specs.Puts.{PutsBy, puts_of};
+ghost use Rattle.vx_source.specs.Puts.{PutsBy, AreHanded, puts_of};
 ghost use Rattle.vx_source.specs.declared.reply.Reply.TheVariants.{Driven};
 ghost use Rattle.vx_base.specs.Caches.{SameCache, OldEntries};
 ghost use Rattle.vx_source.specs.Caching.{HasGot};
@@ -145,6 +145,14 @@ impl Session {
         // There is room for a request of each segment at once, since vectors that grow fill their memory anew.
         let requests = Vec::with_capacity(alloc, segments.len())?;
         let reads = Vec::with_capacity(alloc, segments.len())?;
+        let core = State::with_room(
+            alloc,
+            distance,
+            max_read_size,
+            alignment,
+            concurrency,
+            segments.len(),
+        )?;
         Ok(Session {
             segments,
             tail,
@@ -152,7 +160,7 @@ impl Session {
             max_read_size,
             alignment,
             concurrency,
-            core: State::new(alloc, distance, max_read_size, alignment, concurrency),
+            core,
             requests,
             reads,
             newest,
@@ -589,14 +597,18 @@ impl Session {
         Ok(spans)
     }
 
-    /// The buffers for the cache of what a block gave.
-    fn buffers(
+    /// The buffers of what a block gave, for a cache that does not forget them.
+    fn buffers<C: SegmentCache>(
         &self,
         alloc: Global,
+        cache: &C,
         filed: &[Filed],
     ) -> Result<Vec<(SegmentId, ByteBuffer)>, AllocError>
-        ensures { IfOk result (λ puts. puts.items ≡ puts_of self.now.requests filed.now) }
+        ensures { IfOk result (λ puts. AreHanded (puts_of self.now.requests filed.now) (C.state cache.now) puts.items) }
     {
+        if cache.forgets_puts() {
+            return Ok(Vec::new(alloc));
+        }
         let puts = puts_of(alloc, self.requests.as_slice(), filed)?;
         Ok(puts)
     }
@@ -644,13 +656,16 @@ impl Session {
         ensures same_cache { SameCache (C.state cache.old) (C.state cache.new) }
     {
         let most = self.limit();
+        if !self.core.has_polled() {
+            return Ok(false);
+        }
         self.arrange()?;
         let spans = self.next_block(alloc)?;
         if spans.is_empty() {
             return Ok(false);
         }
         let Block { mut reports, filed } = ask_block(alloc, reader, spans.as_slice())?;
-        let puts = self.buffers(alloc, filed.as_slice())?;
+        let puts = self.buffers(alloc, cache, filed.as_slice())?;
         done.append(&mut reports)?;
         self.commit(spans.as_slice(), filed);
         put_all(alloc, cache, puts);

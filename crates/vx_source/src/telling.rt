@@ -8,6 +8,7 @@ use std::alloc::AllocError;
 use vx_sched::{ReadEvent, ReadRequest, State};
 
 /// A read begins. Only memory refuses.
+#[inline(always)]
 pub fn tell_begin(core: &mut State, request: ReadRequest) -> Result<(), AllocError>
     requires next { core.old.next ≤ request.id }
     requires fits { end_of request < 2 ^ 64 }
@@ -21,6 +22,7 @@ pub fn tell_begin(core: &mut State, request: ReadRequest) -> Result<(), AllocErr
 }
 
 /// A read was polled.
+#[inline(always)]
 pub fn tell_poll(core: &mut State, r: u64)
     ensures value { core.new ≡ polled core.old r }
     ensures ranges { ranges_in_flight core.new.reads ≤ ranges_in_flight core.old.reads }
@@ -33,6 +35,7 @@ pub fn tell_poll(core: &mut State, r: u64)
 }
 
 /// A read was dropped.
+#[inline(always)]
 pub fn tell_drop(core: &mut State, r: u64)
     ensures value { core.new ≡ dropped core.old r }
     ensures ranges { ranges_in_flight core.new.reads ≤ ranges_in_flight core.old.reads }

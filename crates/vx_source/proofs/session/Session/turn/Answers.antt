@@ -2,6 +2,7 @@ use Rattle.std.proofs.Common.{◌≤◌, length, arith, refl}
 use Rattle.std.proofs.lemmas.Bool.Decides.{nat_tests}
 use Rattle.vx_source.proofs.DriveLemmas.{on-err, lost-block, turned-count, none-bad}
 use Rattle.vx_source.proofs.InsideLemmas.{block-inside}
+use Rattle.vx_source.proofs.PutLemmas.{gains-handed}
 use Rattle.vx_source.proofs.session.Session.turn.Goals as goal
 
 pub returns-in_err-append-clause-lost : goal.returns-in_err-append-clause-lost
@@ -29,7 +30,7 @@ returns-clause-turned g c =
     (c.in_ok-append.ensures.items)
     (rw (c.as_slice-3.ensures.value, c.arrange.ensures) at c.commit.ensures.after)
     (rw (c.as_slice-3.ensures.value, c.arrange.ensures) at c.commit.ensures.polled)
-    (rw (c.in_ok-puts.ensures, c.as_slice-2.ensures.value, c.arrange.ensures) at c.put_all.ensures.gains)
+    (gains-handed _ c.in_ok-puts.puts.items _ _ (rw (c.as_slice-2.ensures.value, c.arrange.ensures) at c.in_ok-puts.ensures) c.put_all.ensures.gains)
 
 pub returns-in_err-puts-clause-lost : goal.returns-in_err-puts-clause-lost
 returns-in_err-puts-clause-lost g c =
