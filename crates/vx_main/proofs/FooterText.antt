@@ -6,8 +6,8 @@ use Rattle.vx_base.specs.Streams.{SinkState}
 use Rattle.vx_data.specs.Layout.{dtype_of, rows_of}
 use Rattle.vx_footer.specs.Footers.{FooterContent}
 use Rattle.vx_main.specs.Render.{line, dtype_line, numbered, layout_lines, segment_line, stats_lines, array_line, meta_line, footer_text}
-use Rattle.vx_main.specs.Text.{TextState, Adds}
-use Rattle.vx_main.proofs.TextLemmas.{adds_then}
+use Rattle.vx_text.specs.Text.{TextState, Adds}
+use Rattle.vx_text.proofs.TextLemmas.{adds_then}
 
 -- what was added is the same where the text is
 pub adds-same : {a b : List ℕ} {w w1 : TextState} {s s1 : SinkState} → a ≡ b → Adds a w s w1 s1 → Adds b w s w1 s1

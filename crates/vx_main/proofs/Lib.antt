@@ -1,10 +1,8 @@
 pub mod Arms
 pub mod DemoArms
-pub mod DigitLemmas
 pub mod FileArms
 pub mod FooterText
 pub mod GeneratedLemmas
-pub mod HexLemmas
 pub mod LayoutLines
 pub mod Lines
 pub mod Lists
@@ -13,7 +11,6 @@ pub mod MadeSegments
 pub mod Openings
 pub mod MetadataLemmas
 pub mod NameScans
-pub mod OptionLemmas
 pub mod Performing
 pub mod PruneArms
 pub mod ReplyText
@@ -25,7 +22,6 @@ pub mod Streaming
 pub mod Summing
 pub mod TableArms
 pub mod TableLemmas
-pub mod TextLemmas
 pub mod Unopened
 mod QuotedLemmas
-pub mod NumberLemmas
+pub mod Reporting

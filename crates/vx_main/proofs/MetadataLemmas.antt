@@ -11,8 +11,8 @@ use Rattle.vx_data.specs.declared.text_error.TextError.{TextError}
 use Rattle.vx_data.specs.declared.text_error.TextError.TheVariants.{BadText, OutOfMemory}
 use Rattle.vx_footer.specs.Serializing.{values_view}
 use Rattle.vx_main.specs.MetadataWords.{Entry, entry_of, with_entry, after_entries, entries_after, entries_of}
-use Rattle.vx_main.specs.Options.{OptionShape, value_count}
-use Rattle.vx_main.proofs.OptionLemmas.{texts, IsNext, counted, texts_behind}
+use Rattle.vx_text.specs.Options.{OptionShape, value_count}
+use Rattle.vx_text.proofs.OptionLemmas.{texts, IsNext, counted, texts_behind}
 
 passed : (shapes : List OptionShape) (n : ℕ) (words : List (List ℕ)) → entries_after shapes n words ≡ entries_of shapes (drop n words)
 passed shapes zero words = refl

@@ -13,7 +13,7 @@ use Rattle.vx_main.specs.Failures.{LeavesFiles}
 use Rattle.vx_main.specs.Outputs.{IsAnswer, Opens, is_text, text_of, unwritten, refusal_status}
 use Rattle.vx_main.specs.Outside.{Outside, Keeps, KeepSteady, outside}
 use Rattle.vx_main.specs.Runs.{Gathers, Given, Performs, Shows, shown_of}
-use Rattle.vx_main.specs.Text.{Writes}
+use Rattle.vx_text.specs.Text.{Writes}
 use Rattle.vx_base.specs.declared.fault.SinkError.{SinkError}
 use Rattle.vx_base.specs.declared.fault.SinkError.TheVariants as sink_error
 

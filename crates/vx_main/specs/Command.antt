@@ -17,8 +17,8 @@ use Rattle.vx_main.specs.declared.commands.scan.Scan as scan
 use Rattle.vx_prune.specs.PredicateWords.{predicate_of}
 use Rattle.vx_main.specs.declared.failure.Failure.{Failure}
 use Rattle.vx_main.specs.declared.failure.Failure.TheVariants as failures
-use Rattle.vx_main.specs.Numbers.{number_of, value_of}
-use Rattle.vx_main.specs.Options.{OptionShape, once, last, are_options, values_of, optional_number}
+use Rattle.vx_text.specs.Numbers.{number_of, value_of}
+use Rattle.vx_text.specs.Options.{OptionShape, once, last, are_options, values_of, optional_number}
 use Rattle.vx_main.specs.WriteWords.{WriteValue, write_shapes, metadata_of}
 use Rattle.vx_main.specs.Reading.{ReadingValue, plain_reading, reading_of, settings_by}
 

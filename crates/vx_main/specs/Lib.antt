@@ -1,6 +1,5 @@
 pub mod Command
 pub mod Demo
-pub mod Digits
 pub mod Failures
 pub mod Generated
 pub mod Help
@@ -8,8 +7,6 @@ pub mod InMemory
 pub mod Input
 pub mod MadeFiles
 pub mod MetadataWords
-pub mod Numbers
-pub mod Options
 pub mod Outputs
 pub mod Outside
 pub mod Reading
@@ -28,5 +25,4 @@ pub mod Streams
 pub mod Summaries
 pub mod SummaryText
 pub mod Tables
-pub mod Text
 pub mod WriteWords

@@ -6,7 +6,7 @@ use Rattle.hex.specs.Hex.{decode_of}
 use Rattle.hex.specs.declared.error.FromHexError.{FromHexError}
 use Rattle.vx_base.specs.Buffer.{Buffer}
 use Rattle.vx_data.specs.TextsRead.{unquoted}
-use Rattle.vx_main.specs.Options.{OptionShape, value_count}
+use Rattle.vx_text.specs.Options.{OptionShape, value_count}
 
 -- a key, and the bytes under it
 abbrev pub Entry : Type 0

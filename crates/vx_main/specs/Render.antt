@@ -1,7 +1,6 @@
 -- The text of what was served.
 use Rattle.std.specs.Prelude.{ℕ, ◌+◌, Bool, true, false, List, [], ◌∷◌, ◌++◌, length, codes, decimal, Option, Some, None}
 use Rattle.std.specs.List.{flat_map}
-use Rattle.hex.specs.Hex.{encode_lower}
 use Rattle.vx_base.specs.FaultName.{fault_name}
 use Rattle.vx_base.specs.declared.segment.SegmentSpec.{SegmentSpec}
 use Rattle.vx_base.specs.Counts.{next_count}
@@ -29,6 +28,7 @@ use Rattle.vx_source.specs.declared.span.SpanOutcome.{SpanOutcome}
 use Rattle.vx_source.specs.declared.span.SpanOutcome.TheVariants.{Good, Bad}
 use Rattle.vx_file.specs.declared.metadata.MetadataValue.{MetadataValue}
 use Rattle.vx_file.specs.declared.served.Served.{Served}
+use Rattle.vx_text.specs.Hexadecimal.{hex_text}
 
 -- a word, and numbers behind it, each after a space
 abbrev pub numbers_after : List ℕ → List ℕ
@@ -103,10 +103,6 @@ footer_text f =
 
 abbrev pub read_line : ℕ × ℕ → List ℕ
 read_line range = line (codes "read") (range.0 ∷ range.1 ∷ [])
-
-abbrev pub hex_text : List ℕ → List ℕ
-hex_text [] = 45 ∷ []
-hex_text (byte ∷ bytes) = encode_lower (byte ∷ bytes)
 
 abbrev pub place_words : Place → List ℕ
 place_words Size = codes " size"

@@ -5,7 +5,7 @@ use Rattle.vx_main.specs.declared.script.ScriptError.{ScriptError}
 use Rattle.vx_main.specs.declared.script.ScriptError.TheVariants.{Line, OutOfMemory}
 use Rattle.vx_file.specs.declared.Step.{Step}
 use Rattle.vx_file.specs.declared.Step.TheVariants.{Register, Poll, Drop, Drive}
-use Rattle.vx_main.specs.Numbers.{number_of}
+use Rattle.vx_text.specs.Numbers.{number_of}
 
 abbrev pub register_of : Option ℕ → Option Step
 register_of None = None

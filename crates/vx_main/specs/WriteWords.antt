@@ -5,7 +5,7 @@ use Rattle.vx_footer.specs.declared.version.FileVersion.TheVariants.{V1, V2}
 use Rattle.vx_write.specs.Options.{Options, default_options, with_values}
 use Rattle.vx_write.specs.Strategies.{Strategy, default_settings, built}
 use Rattle.vx_main.specs.MetadataWords.{entries_of}
-use Rattle.vx_main.specs.Options.{OptionShape, once, repeated}
+use Rattle.vx_text.specs.Options.{OptionShape, once, repeated}
 
 -- whether the type and the statistics are left out, how many rows a block has and how many bytes a chunk gathers, where
 -- that is said, the words that spell the metadata, and whether the file is of the second version

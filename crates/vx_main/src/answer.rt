@@ -3,7 +3,7 @@ ghost use Rattle.std.specs.Prelude.{◌≡◌, true};
 ghost use Rattle.vx_base.specs.Streams.{SameSink};
 ghost use Rattle.vx_main.specs.Outputs.{is_text, text_of};
 ghost use Rattle.vx_main.specs.Runs.{Shows, shown_of};
-ghost use Rattle.vx_main.specs.Text.{Adds, Writes};
+ghost use Rattle.vx_text.specs.Text.{Adds, Writes};
 
 use crate::failure::Failure;
 use crate::print::help::put_help;
@@ -16,7 +16,7 @@ use crate::printable::Printable;
 use crate::printable_rows::PrintableRows;
 use crate::rows_file::RowsFile;
 use crate::summary::FileSummary;
-use crate::text::TextOut;
+use vx_text::TextOut;
 use std::alloc::Global;
 use vx_base::{Sink, SinkError};
 use vx_footer::CompressedFieldSizes;

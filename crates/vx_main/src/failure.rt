@@ -1,14 +1,14 @@
 //! Why the program fails: its statuses and their lines.
 ghost use Rattle.std.specs.Prelude.{◌≡◌, codes, decimal, ◌++◌};
 ghost use Rattle.vx_main.specs.Failures.{status_of, failure_words, message_of, read_words};
-ghost use Rattle.vx_main.specs.Text.{Adds, Writes};
+ghost use Rattle.vx_text.specs.Text.{Adds, Writes};
 ghost use Rattle.vx_main.specs.Runs.{Reports};
 ghost use Rattle.vx_base.specs.Streams.{SameSink};
 
 use crate::name::Name;
 use crate::print::fault::put_fault;
 use crate::refusal::{array_error_name, bind_error_name, refusal_name, write_error_name};
-use crate::text::TextOut;
+use vx_text::TextOut;
 use std::alloc::{AllocError, Global};
 use vx_base::{Sink, SinkError};
 use vx_footer::{OpenError, WriteError};
@@ -126,7 +126,7 @@ impl<'a> Failure<'a> {
     }
 
     /// Writes the line for the error stream. What the stream answers changes nothing.
-    #[tactic(auto, using(crate::proofs::TextLemmas::reports))]
+    #[tactic(auto, using(crate::proofs::Reporting::reports))]
     pub(crate) fn report<S: Sink>(&self, alloc: Global, err: &mut S)
         ensures reported { Reports (message_of self.now) (S.state err.old) (S.state err.new) }
         ensures same { SameSink (S.state err.old) (S.state err.new) }

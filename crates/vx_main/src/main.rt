@@ -1,10 +1,9 @@
 //! The program `vx`: serves the segments of files by a script, measures and skips files, and writes and prints rows.
-#![tactic(auto, using(crate::proofs::TextLemmas::adds_then, crate::proofs::TextLemmas::adds_nothing))]
+#![tactic(auto, using(vx_text::proofs::TextLemmas::adds_then, vx_text::proofs::TextLemmas::adds_nothing))]
 
 mod answer;
 mod command;
 mod commands;
-mod digits;
 mod failure;
 mod filter;
 mod generated_bytes;
@@ -15,8 +14,6 @@ mod made_file;
 mod memory;
 mod metadata_words;
 mod name;
-mod numbers;
-mod options;
 mod print;
 mod printable;
 mod printable_rows;
@@ -30,7 +27,6 @@ mod script;
 mod serving;
 mod summary;
 mod table;
-mod text;
 mod words;
 
 use crate::failure::Failure;

@@ -2,7 +2,6 @@
 pub(crate) mod fault;
 pub(crate) mod footer;
 pub(crate) mod help;
-pub(crate) mod hexadecimal;
 pub(crate) mod layout;
 pub(crate) mod reply;
 pub(crate) mod rows;

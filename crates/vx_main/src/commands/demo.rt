@@ -17,7 +17,7 @@ use crate::command::Command;
 use crate::failure::Failure;
 use crate::input::load_script;
 use crate::made_file::MadeFile;
-use crate::numbers::value;
+use vx_text::value;
 use crate::printable::Printable;
 use std::alloc::{AllocError, Global};
 use std::marker::Model;

@@ -3,7 +3,7 @@ ghost use Rattle.std.specs.Prelude.{◌≡◌, Some, is_some, map, string_bytes,
 ghost use Rattle.std.specs.Option.{option_map};
 ghost use Rattle.vx_base.specs.Openers.{SameOpener};
 ghost use Rattle.vx_main.specs.Command.{serve_of, serve_behind, serve_shapes, served_by, serve_number, reading_by, optional_dtype, serve_hints, Parses};
-ghost use Rattle.vx_main.specs.Options.{are_options, values_of};
+ghost use Rattle.vx_text.specs.Options.{are_options, values_of};
 ghost use Rattle.vx_main.specs.Outside.{Keeps, OpenerSteady};
 ghost use Rattle.vx_main.specs.Reading.{settings_by, new_cache};
 ghost use Rattle.vx_main.specs.Runs.{Gathers};
@@ -15,7 +15,7 @@ use crate::command::Command;
 use crate::failure::Failure;
 use crate::input::load_script;
 use crate::name::Name;
-use crate::options::{Shape, are_options, optional_number, values_of};
+use vx_text::{Shape, are_options, optional_number, values_of};
 use crate::printable::Printable;
 use crate::reading::Reading;
 use crate::row_type::RowType;

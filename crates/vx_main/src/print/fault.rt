@@ -1,9 +1,9 @@
 //! Why a read failed.
 ghost use Rattle.vx_main.specs.Render.{fault_words};
-ghost use Rattle.vx_main.specs.Text.{Adds};
+ghost use Rattle.vx_text.specs.Text.{Adds};
 
 use crate::print::words::put_numbers;
-use crate::text::TextOut;
+use vx_text::TextOut;
 use vx_base::Sink;
 use vx_sched::{Fault, Place};
 

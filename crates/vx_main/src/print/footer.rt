@@ -4,12 +4,12 @@ ghost use Rattle.std.specs.List.{flat_map};
 ghost use Rattle.vx_data.specs.Layout.{dtype_of, rows_of};
 ghost use Rattle.vx_main.specs.Render.{array_line, footer_text, line, meta_line, numbered, numbers_after, segment_line};
 ghost use Rattle.vx_data.specs.Texts.{dtype_text};
-ghost use Rattle.vx_main.specs.Text.{Adds};
+ghost use Rattle.vx_text.specs.Text.{Adds};
 
 use crate::print::layout::put_layout;
 use crate::print::statistics::put_statistics;
 use crate::print::words::{put_line, put_numbers, put_quoted};
-use crate::text::TextOut;
+use vx_text::TextOut;
 use vx_base::{SegmentSpec, Sink};
 use vx_footer::{Footer, PostscriptMetadata, PostscriptSegment};
 

@@ -1,8 +1,8 @@
 //! The text of the help.
 ghost use Rattle.vx_main.specs.Help.{help_text};
-ghost use Rattle.vx_main.specs.Text.{Adds};
+ghost use Rattle.vx_text.specs.Text.{Adds};
 
-use crate::text::TextOut;
+use vx_text::TextOut;
 use vx_base::Sink;
 
 const WHAT: &[u8] =

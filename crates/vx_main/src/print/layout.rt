@@ -2,9 +2,9 @@
 ghost use Rattle.std.specs.Prelude.{◌≡◌, ◌∷◌, decimal};
 ghost use Rattle.vx_data.specs.Layout.{layouts_of, kind_of, rows_of, segments_of, numbers_of};
 ghost use Rattle.vx_main.specs.Render.{kind_name, layout_line, layout_lines, layouts_lines, numbers_after};
-ghost use Rattle.vx_main.specs.Text.{Adds};
+ghost use Rattle.vx_text.specs.Text.{Adds};
 
-use crate::text::TextOut;
+use vx_text::TextOut;
 use vx_base::{SegmentId, Sink};
 use vx_data::{Layout, LayoutKind};
 

@@ -2,12 +2,12 @@
 ghost use Rattle.std.specs.Prelude.{◌∷◌, [], ◌++◌, length, codes};
 ghost use Rattle.std.specs.List.{flat_map};
 ghost use Rattle.vx_main.specs.Render.{words, line, hex_text, cause_words, outcome_word, span_line, held_word, reply_text};
-ghost use Rattle.vx_main.specs.Text.{Adds};
+ghost use Rattle.vx_text.specs.Text.{Adds};
 
 use crate::print::fault::put_fault;
-use crate::print::hexadecimal::put_hex;
+use vx_text::put_hex;
 use crate::print::words::{put_line, put_numbers, put_words};
-use crate::text::TextOut;
+use vx_text::TextOut;
 use vx_base::Sink;
 use vx_file::{FailCause, Reply, Span, SpanOutcome};
 

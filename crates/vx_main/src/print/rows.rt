@@ -6,12 +6,12 @@ ghost use Rattle.vx_data.specs.Texts.{comma, quoted};
 ghost use Rattle.vx_rows.specs.Rows.{column_view, pairs_view, structs};
 ghost use Rattle.vx_rows.specs.ValueTexts.{optional, bool_text, value_text, fields_text, lines_text};
 ghost use Rattle.vx_main.specs.RowsText.{rows_text};
-ghost use Rattle.vx_main.specs.Text.{Adds, Holds};
+ghost use Rattle.vx_text.specs.Text.{Adds, Holds};
 
-use crate::digits::put_digits;
+use vx_text::put_digits;
 use crate::print::words::put_quoted;
 use crate::printable_rows::PrintableRows;
-use crate::text::TextOut;
+use vx_text::TextOut;
 use itoa::Buffer;
 use vx_base::Sink;
 use vx_rows::{Column, StructRows};
@@ -43,7 +43,7 @@ fn put_signed<S: Sink>(number: i128, text: &mut TextOut, out: &mut S)
 
 /// Adds a decimal number. Nearly all are unsigned numbers of 64 bits.
 #[inline(always)]
-#[tactic(auto, using(crate::proofs::TextLemmas::adds_holds))]
+#[tactic(auto, using(vx_text::proofs::TextLemmas::adds_holds))]
 fn put_number<S: Sink>(number: i128, text: &mut TextOut, out: &mut S)
     requires { length text.old.held + 20 ≤ 32768 }
     ensures { Adds (signed_decimal number) text.old (S.state out.old) text.new (S.state out.new) }

@@ -1,14 +1,14 @@
 //! What was served.
 ghost use Rattle.std.specs.List.{flat_map};
 ghost use Rattle.vx_main.specs.Render.{read_line, reply_text, value_line, values_text, render_text};
-ghost use Rattle.vx_main.specs.Text.{Adds};
+ghost use Rattle.vx_text.specs.Text.{Adds};
 
 use crate::print::footer::put_footer;
-use crate::print::hexadecimal::put_hex;
+use vx_text::put_hex;
 use crate::print::reply::put_reply;
 use crate::print::words::{put_line, put_quoted};
 use crate::printable::Printable;
-use crate::text::TextOut;
+use vx_text::TextOut;
 use vx_base::{Sequence, Sink};
 use vx_file::{MetadataValue, Replies};
 

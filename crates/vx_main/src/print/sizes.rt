@@ -2,10 +2,10 @@
 ghost use Rattle.std.specs.Prelude.{map, string_bytes};
 ghost use Rattle.std.specs.List.{flat_map};
 ghost use Rattle.vx_main.specs.SizesText.{part_text, path_text, size_line, sizes_text};
-ghost use Rattle.vx_main.specs.Text.{Adds};
+ghost use Rattle.vx_text.specs.Text.{Adds};
 
 use crate::print::words::put_quoted;
-use crate::text::TextOut;
+use vx_text::TextOut;
 use vx_base::Sink;
 use vx_data::FieldPath;
 use vx_footer::CompressedFieldSizes;

@@ -5,10 +5,10 @@ ghost use Rattle.std.specs.Option.{option_map};
 ghost use Rattle.vx_data.specs.Scalar.{scalar_text, scalar_view};
 ghost use Rattle.vx_data.specs.Stats.{stat_in};
 ghost use Rattle.vx_main.specs.Render.{numbered, precision_mark, stat_words, stats_line, stats_lines};
-ghost use Rattle.vx_main.specs.Text.{Adds};
+ghost use Rattle.vx_text.specs.Text.{Adds};
 
 use crate::print::words::put_quoted;
-use crate::text::TextOut;
+use vx_text::TextOut;
 use itoa::Buffer;
 use vx_base::Sink;
 use vx_data::{Precision, Scalar, Stat, StatsSet};

@@ -2,12 +2,12 @@
 ghost use Rattle.std.specs.Prelude.{◌∷◌, [], codes};
 ghost use Rattle.vx_main.specs.Render.{line, numbered};
 ghost use Rattle.vx_main.specs.SummaryText.{column_line, summary_text};
-ghost use Rattle.vx_main.specs.Text.{Adds};
+ghost use Rattle.vx_text.specs.Text.{Adds};
 
 use crate::print::served::put_ranges;
 use crate::print::words::put_line;
 use crate::summary::FileSummary;
-use crate::text::TextOut;
+use vx_text::TextOut;
 use vx_base::Sink;
 
 /// Adds what each column takes, a line each.

@@ -1,8 +1,8 @@
 //! A truth value.
 ghost use Rattle.vx_main.specs.Outputs.{truth_text};
-ghost use Rattle.vx_main.specs.Text.{Adds};
+ghost use Rattle.vx_text.specs.Text.{Adds};
 
-use crate::text::TextOut;
+use vx_text::TextOut;
 use vx_base::Sink;
 
 /// Adds a truth value as a line.

@@ -3,9 +3,9 @@ ghost use Rattle.std.specs.Prelude.{◌≡◌, ◌+◌, ◌<◌, ◌≤◌, ◌/
 ghost use Rattle.std.specs.List.{flat_map, list_all};
 ghost use Rattle.vx_data.specs.Texts.{quoted, quoted_byte, is_quote_plain, upper_hex_digit};
 ghost use Rattle.vx_main.specs.Render.{numbers_after, words, line};
-ghost use Rattle.vx_main.specs.Text.{Adds, Holds};
+ghost use Rattle.vx_text.specs.Text.{Adds, Holds};
 
-use crate::text::TextOut;
+use vx_text::TextOut;
 use vx_base::Sink;
 
 /// Adds numbers, each after a space.

@@ -2,7 +2,7 @@ use Rattle.std.proofs.Common.{rules, ◌≡◌, ◌∷◌, Err, map, subst, sym}
 use Rattle.std.specs.Prelude.{string_bytes}
 use Rattle.vx_footer.specs.Serializing.{values_view}
 use Rattle.vx_main.specs.MetadataWords.{after_entries, entries_of}
-use Rattle.vx_main.proofs.OptionLemmas.{IsNext}
+use Rattle.vx_text.proofs.OptionLemmas.{IsNext}
 use Rattle.vx_main.proofs.MetadataLemmas.{entry-other, entry-read, entry-fails, unequal, equal}
 use Rattle.vx_main.proofs.metadata_words.entries.Goals as goal
 

@@ -1,5 +1,5 @@
 use Rattle.vx_main.specs.Outputs.{text_of}
-use Rattle.vx_main.proofs.TextLemmas.{writes, adds_here}
+use Rattle.vx_text.proofs.TextLemmas.{writes, adds_here}
 use Rattle.vx_main.proofs.answer.Answer.write.Goals as goal
 
 pub returns : goal.returns

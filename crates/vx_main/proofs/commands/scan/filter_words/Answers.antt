@@ -1,6 +1,6 @@
 use Rattle.std.proofs.Common.{◌∙◌, ap, map, string_bytes}
 use Rattle.std.specs.Prelude.{codes}
-use Rattle.vx_main.specs.Options.{values_of}
+use Rattle.vx_text.specs.Options.{values_of}
 use Rattle.vx_main.proofs.commands.scan.filter_words.Goals as goal
 
 pub returns : goal.returns

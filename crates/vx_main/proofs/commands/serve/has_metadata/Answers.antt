@@ -1,7 +1,7 @@
 use Rattle.std.proofs.Common.{◌∙◌, sym, ap, map, string_bytes, is_some}
 use Rattle.std.specs.Prelude.{codes}
-use Rattle.vx_main.specs.Options.{values_of}
-use Rattle.vx_main.proofs.OptionLemmas.{is_some_map}
+use Rattle.vx_text.specs.Options.{values_of}
+use Rattle.vx_text.proofs.OptionLemmas.{is_some_map}
 use Rattle.vx_main.proofs.commands.serve.has_metadata.Goals as goal
 
 pub returns : goal.returns

@@ -1,5 +1,5 @@
 use Rattle.vx_main.specs.Failures.{message_of}
-use Rattle.vx_main.proofs.TextLemmas.{adds_then, adds_here, writes}
+use Rattle.vx_text.proofs.TextLemmas.{adds_then, adds_here, writes}
 use Rattle.vx_main.proofs.failure.Failure.print.Goals as goal
 
 pub returns : goal.returns

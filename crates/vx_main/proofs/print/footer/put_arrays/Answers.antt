@@ -1,10 +1,10 @@
 use Rattle.std.proofs.Common.{◌≡◌, ◌<◌, length, map, ap, subst, rules}
 use Rattle.std.specs.Prelude.{string_bytes}
 use Rattle.vx_main.specs.Render.{array_line}
-use Rattle.vx_main.specs.Text.{Adds}
+use Rattle.vx_text.specs.Text.{Adds}
 use Rattle.vx_main.proofs.FooterText.{adds-same}
 use Rattle.vx_main.proofs.Lists.{got-mapped, numbered-take}
-use Rattle.vx_main.proofs.TextLemmas.{adds_then}
+use Rattle.vx_text.proofs.TextLemmas.{adds_then}
 use Rattle.vx_main.proofs.print.footer.put_arrays.Goals as goal
 
 pub loop-i-preserved : goal.loop-i-preserved

@@ -1,7 +1,7 @@
 use Rattle.std.proofs.Common.{take, map}
 use Rattle.std.specs.Prelude.{string_bytes}
 use Rattle.vx_main.specs.Render.{numbered, array_line}
-use Rattle.vx_main.specs.Text.{Adds}
+use Rattle.vx_text.specs.Text.{Adds}
 use Rattle.vx_main.proofs.print.footer.put_arrays.Given as goal
 
 -- what stands in front was added

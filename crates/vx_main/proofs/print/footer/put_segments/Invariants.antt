@@ -1,6 +1,6 @@
 use Rattle.std.proofs.Common.{take}
 use Rattle.vx_main.specs.Render.{numbered, segment_line}
-use Rattle.vx_main.specs.Text.{Adds}
+use Rattle.vx_text.specs.Text.{Adds}
 use Rattle.vx_main.proofs.print.footer.put_segments.Given as goal
 
 -- what stands in front was added

@@ -1,4 +1,4 @@
-use Rattle.vx_main.proofs.TextLemmas.{adds_then}
+use Rattle.vx_text.proofs.TextLemmas.{adds_then}
 use Rattle.vx_main.proofs.print.help.put_help.Goals as goal
 
 pub returns : goal.returns

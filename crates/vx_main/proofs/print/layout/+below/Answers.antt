@@ -1,7 +1,7 @@
 use Rattle.std.proofs.Common.{◌<◌, length, subst, rules}
-use Rattle.vx_main.specs.Text.{Adds}
+use Rattle.vx_text.specs.Text.{Adds}
 use Rattle.vx_main.proofs.LayoutLines.{lines-take}
-use Rattle.vx_main.proofs.TextLemmas.{adds_then}
+use Rattle.vx_text.proofs.TextLemmas.{adds_then}
 use Rattle.vx_main.proofs.print.layout.+below.Goals as goal
 
 pub put_all-loop-at-preserved : goal.put_all-loop-at-preserved

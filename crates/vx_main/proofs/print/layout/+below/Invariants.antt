@@ -1,7 +1,7 @@
 use Rattle.std.proofs.Common.{◌*◌, ◌+◌, take}
 use Rattle.vx_data.specs.Layout.{layouts_of, tree_size, trees_size}
 use Rattle.vx_main.specs.Render.{layouts_lines}
-use Rattle.vx_main.specs.Text.{Adds}
+use Rattle.vx_text.specs.Text.{Adds}
 use Rattle.vx_main.proofs.print.layout.+below.Given as goal
 
 abbrev pub decreases-put_layout : goal.decreases-put_layout

@@ -1,7 +1,7 @@
 use Rattle.std.proofs.Common.{take}
 use Rattle.vx_data.specs.Layout.{numbers_of}
 use Rattle.vx_main.specs.Render.{numbers_after}
-use Rattle.vx_main.specs.Text.{Adds}
+use Rattle.vx_text.specs.Text.{Adds}
 use Rattle.vx_main.proofs.print.layout.put_ids.Given as goal
 
 -- what stands in front was added

@@ -1,4 +1,4 @@
-use Rattle.vx_main.proofs.TextLemmas.{adds_then}
+use Rattle.vx_text.proofs.TextLemmas.{adds_then}
 use Rattle.vx_main.proofs.print.layout.put_one.Goals as goal
 
 pub returns : goal.returns

@@ -1,5 +1,5 @@
 use Rattle.std.proofs.Common.{◌≡◌, sym, subst, length, rules}
-use Rattle.vx_main.specs.Text.{Adds}
+use Rattle.vx_text.specs.Text.{Adds}
 use Rattle.vx_main.proofs.ReplyText.{idle-text}
 use Rattle.vx_main.proofs.print.reply.put_driven.Goals as goal
 

@@ -1,7 +1,7 @@
 use Rattle.std.proofs.Common.{◌<◌, length, sym, subst, rules}
 use Rattle.vx_rows.proofs.PrintedLemmas.{next_text}
-use Rattle.vx_main.specs.Text.{Adds}
-use Rattle.vx_main.proofs.TextLemmas.{adds_then, adds_put}
+use Rattle.vx_text.specs.Text.{Adds}
+use Rattle.vx_text.proofs.TextLemmas.{adds_then, adds_put}
 use Rattle.vx_main.proofs.print.rows.+printing.Goals as goal
 
 pub put_all-loop-column-preserved : goal.put_all-loop-column-preserved

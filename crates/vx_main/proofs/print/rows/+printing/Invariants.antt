@@ -3,7 +3,7 @@ use Rattle.vx_base.specs.Streams.{SinkState}
 use Rattle.vx_rows.specs.Rows.{column_view, pairs_view, dtype_of, types_of}
 use Rattle.vx_rows.specs.Trees.{type_size, fields_size}
 use Rattle.vx_rows.specs.ValueTexts.{fields_text}
-use Rattle.vx_main.specs.Text.{TextState, Adds}
+use Rattle.vx_text.specs.Text.{TextState, Adds}
 use Rattle.vx_main.proofs.print.rows.+printing.Given as goal
 
 abbrev pub decreases-put_value : goal.decreases-put_value

@@ -2,8 +2,8 @@ use Rattle.std.proofs.Common.{◌≡◌, ◌<◌, ◌≤◌, ◌-◌, sym, ap, s
 use Rattle.vx_rows.specs.Rows.{rows_len, column_view}
 use Rattle.vx_rows.specs.ValueTexts.{lines_from}
 use Rattle.vx_rows.proofs.PrintedLemmas.{next_line}
-use Rattle.vx_main.specs.Text.{Adds}
-use Rattle.vx_main.proofs.TextLemmas.{adds_then, adds_nothing}
+use Rattle.vx_text.specs.Text.{Adds}
+use Rattle.vx_text.proofs.TextLemmas.{adds_then, adds_nothing}
 use Rattle.vx_main.proofs.print.rows.put_lines.Goals as goal
 
 pub loop-row-preserved : goal.loop-row-preserved

@@ -2,7 +2,7 @@ use Rattle.std.proofs.Common.{◌-◌}
 use Rattle.vx_base.specs.Streams.{SinkState}
 use Rattle.vx_rows.specs.Rows.{column_view, rows_len}
 use Rattle.vx_rows.specs.ValueTexts.{lines_from, lines_text}
-use Rattle.vx_main.specs.Text.{TextState, Adds}
+use Rattle.vx_text.specs.Text.{TextState, Adds}
 use Rattle.vx_main.proofs.print.rows.put_lines.Given as goal
 
 -- the rows that are left are all that is to be added

@@ -1,8 +1,8 @@
 use Rattle.std.proofs.Common.{sym, subst}
 use Rattle.std.specs.List.{flat_map}
 use Rattle.vx_main.specs.Render.{reply_text}
-use Rattle.vx_main.specs.Text.{Adds}
-use Rattle.vx_main.proofs.TextLemmas.{adds_then}
+use Rattle.vx_text.specs.Text.{Adds}
+use Rattle.vx_text.proofs.TextLemmas.{adds_then}
 use Rattle.vx_main.proofs.print.served.put_replies.Goals as goal
 
 pub loop-told-preserved : goal.loop-told-preserved

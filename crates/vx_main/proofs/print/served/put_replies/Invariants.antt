@@ -1,7 +1,7 @@
 use Rattle.std.specs.List.{flat_map}
 use Rattle.vx_base.specs.Streams.{SinkState}
 use Rattle.vx_main.specs.Render.{reply_text}
-use Rattle.vx_main.specs.Text.{TextState, Adds}
+use Rattle.vx_text.specs.Text.{TextState, Adds}
 use Rattle.vx_main.proofs.print.served.put_replies.Given as goal
 
 -- what is left is all that is to be added

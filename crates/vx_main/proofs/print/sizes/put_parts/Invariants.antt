@@ -1,7 +1,7 @@
 use Rattle.std.proofs.Common.{take, map, string_bytes}
 use Rattle.std.specs.List.{flat_map}
 use Rattle.vx_main.specs.SizesText.{part_text}
-use Rattle.vx_main.specs.Text.{Adds}
+use Rattle.vx_text.specs.Text.{Adds}
 use Rattle.vx_main.proofs.print.sizes.put_parts.Given as goal
 
 -- what stands in front was added

@@ -1,7 +1,7 @@
 use Rattle.std.proofs.Common.{sym, subst}
 use Rattle.vx_main.specs.SizesText.{sizes_text}
-use Rattle.vx_main.specs.Text.{Adds}
-use Rattle.vx_main.proofs.TextLemmas.{adds_then}
+use Rattle.vx_text.specs.Text.{Adds}
+use Rattle.vx_text.proofs.TextLemmas.{adds_then}
 use Rattle.vx_main.proofs.print.sizes.put_sizes.Goals as goal
 
 pub loop-path-preserved : goal.loop-path-preserved

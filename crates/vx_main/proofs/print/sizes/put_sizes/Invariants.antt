@@ -1,6 +1,6 @@
 use Rattle.vx_base.specs.Streams.{SinkState}
 use Rattle.vx_main.specs.SizesText.{sizes_text}
-use Rattle.vx_main.specs.Text.{TextState, Adds}
+use Rattle.vx_text.specs.Text.{TextState, Adds}
 use Rattle.vx_main.proofs.print.sizes.put_sizes.Given as goal
 
 -- what is left is all that is to be added

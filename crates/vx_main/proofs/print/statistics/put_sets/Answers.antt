@@ -1,8 +1,8 @@
 use Rattle.std.proofs.Common.{◌<◌, length, subst, rules}
 use Rattle.vx_main.specs.Render.{stats_line}
-use Rattle.vx_main.specs.Text.{Adds}
+use Rattle.vx_text.specs.Text.{Adds}
 use Rattle.vx_main.proofs.Lists.{got-here, numbered-take}
-use Rattle.vx_main.proofs.TextLemmas.{adds_then}
+use Rattle.vx_text.proofs.TextLemmas.{adds_then}
 use Rattle.vx_main.proofs.print.statistics.put_sets.Goals as goal
 
 pub loop-i-preserved : goal.loop-i-preserved

@@ -1,6 +1,6 @@
 use Rattle.std.proofs.Common.{take}
 use Rattle.vx_main.specs.Render.{numbered, stats_line}
-use Rattle.vx_main.specs.Text.{Adds}
+use Rattle.vx_text.specs.Text.{Adds}
 use Rattle.vx_main.proofs.print.statistics.put_sets.Given as goal
 
 -- what stands in front was added

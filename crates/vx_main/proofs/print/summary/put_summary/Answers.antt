@@ -2,8 +2,8 @@ use Rattle.std.proofs.Common.{subst}
 use Rattle.std.specs.List.{flat_map}
 use Rattle.vx_main.specs.Render.{numbered, read_line}
 use Rattle.vx_main.specs.SummaryText.{column_line}
-use Rattle.vx_main.specs.Text.{Adds}
-use Rattle.vx_main.proofs.TextLemmas.{adds_then}
+use Rattle.vx_text.specs.Text.{Adds}
+use Rattle.vx_text.proofs.TextLemmas.{adds_then}
 use Rattle.vx_main.proofs.print.summary.put_summary.Goals as goal
 
 pub returns : goal.returns

@@ -1,7 +1,7 @@
 use Rattle.std.proofs.Common.{sym, subst, ◌∙◌}
-use Rattle.vx_main.specs.Text.{Adds}
+use Rattle.vx_text.specs.Text.{Adds}
 use Rattle.vx_main.proofs.QuotedLemmas.{plain-front}
-use Rattle.vx_main.proofs.TextLemmas.{adds_after, adds_then, adds_put}
+use Rattle.vx_text.proofs.TextLemmas.{adds_after, adds_then, adds_put}
 use Rattle.vx_main.proofs.print.words.put_by_four.Goals as goal
 
 pub loop-rest-preserved : goal.loop-rest-preserved

@@ -2,7 +2,7 @@ use Rattle.std.proofs.Common.{length}
 use Rattle.std.specs.List.{flat_map}
 use Rattle.vx_base.specs.Streams.{SinkState}
 use Rattle.vx_data.specs.Texts.{quoted_byte}
-use Rattle.vx_main.specs.Text.{TextState, Adds}
+use Rattle.vx_text.specs.Text.{TextState, Adds}
 use Rattle.vx_main.proofs.print.words.put_by_four.Given as goal
 
 -- what is left is all that is to be added

@@ -1,5 +1,5 @@
 use Rattle.vx_main.proofs.QuotedLemmas.{four_bytes}
-use Rattle.vx_main.proofs.TextLemmas.{holds_then}
+use Rattle.vx_text.proofs.TextLemmas.{holds_then}
 use Rattle.vx_main.proofs.print.words.put_four.Goals as goal
 
 pub returns : goal.returns

@@ -1,6 +1,6 @@
 use Rattle.std.proofs.Common.{take}
 use Rattle.vx_main.specs.Render.{numbers_after}
-use Rattle.vx_main.specs.Text.{Adds}
+use Rattle.vx_text.specs.Text.{Adds}
 use Rattle.vx_main.proofs.print.words.put_numbers.Given as goal
 
 -- what stands in front was added

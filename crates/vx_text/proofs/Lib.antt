@@ -1,0 +1,5 @@
+pub mod DigitLemmas
+pub mod HexLemmas
+pub mod NumberLemmas
+pub mod OptionLemmas
+pub mod TextLemmas

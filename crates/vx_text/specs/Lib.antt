@@ -1,0 +1,5 @@
+pub mod Digits
+pub mod Hexadecimal
+pub mod Numbers
+pub mod Options
+pub mod Text

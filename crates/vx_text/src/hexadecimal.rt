@@ -1,0 +1,87 @@
+//! Bytes as hex text.
+ghost use Rattle.std.specs.Prelude.{◌≡◌, ◌*◌, ◌<◌, ◌≤◌, length, slice_index};
+ghost use Rattle.hex.specs.Hex.{encode_lower, lower_digits};
+ghost use Rattle.vx_text.specs.Hexadecimal.{hex_text};
+ghost use Rattle.vx_text.specs.Text.{Adds};
+
+use crate::text::TextOut;
+use vx_base::Sink;
+
+/// How many bytes are spelled at once.
+const PIECE: usize = 8192;
+
+/// So few bytes take little room.
+const FEW: usize = 64;
+
+/// The lower case digit of a number below 16. It is reckoned and not looked up, so that a processor finds many at once.
+#[inline(always)]
+#[tactic(auto, using(crate::proofs::HexLemmas::lower_digit_is))]
+fn lower_digit(number: u8) -> u8
+    requires { number < 16 }
+    ensures { result ≡ slice_index lower_digits number }
+{
+    if number < 10 {
+        b'0' + number
+    } else {
+        b'a' - 10 + number
+    }
+}
+
+/// Spells bytes in lower case digits.
+fn spell(bytes: &[u8], digits: &mut [u8])
+    requires { length digits.old ≡ 2 * length bytes.now }
+    ensures { digits.new ≡ encode_lower bytes.now }
+{
+    for at in 0..bytes.len() {
+        let byte = bytes[at];
+        digits[2 * at] = lower_digit(byte / 16);
+        digits[2 * at + 1] = lower_digit(byte % 16);
+    }
+}
+
+/// Adds few bytes as lower case digits.
+fn put_few<S: Sink>(bytes: &[u8], text: &mut TextOut, out: &mut S)
+    requires { length bytes.now ≤ 64 }
+    ensures { Adds (encode_lower bytes.now) text.old (S.state out.old) text.new (S.state out.new) }
+{
+    let mut digits = [0u8; 2 * FEW];
+    let room = &mut digits[..2 * bytes.len()];
+    spell(bytes, room);
+    text.word(out, room);
+}
+
+/// Adds at most so many bytes as are spelled at once.
+fn put_piece<S: Sink>(bytes: &[u8], text: &mut TextOut, out: &mut S)
+    requires { length bytes.now ≤ 8192 }
+    ensures { Adds (encode_lower bytes.now) text.old (S.state out.old) text.new (S.state out.new) }
+{
+    let mut digits = [0u8; 2 * PIECE];
+    let room = &mut digits[..2 * bytes.len()];
+    spell(bytes, room);
+    text.word(out, room);
+}
+
+/// Adds bytes, of which there are some, piece by piece.
+fn put_pieces<S: Sink>(bytes: &[u8], text: &mut TextOut, out: &mut S)
+    ensures { Adds (encode_lower bytes.now) text.old (S.state out.old) text.new (S.state out.new) }
+{
+    let mut rest = bytes;
+    while !rest.is_empty() {
+        let (piece, behind) = rest.split_at(rest.len().min(PIECE));
+        put_piece(piece, text, out);
+        rest = behind;
+    }
+}
+
+/// Adds bytes as lower case digits, `-` for none.
+pub fn put_hex<S: Sink>(bytes: &[u8], text: &mut TextOut, out: &mut S)
+    ensures { Adds (hex_text bytes.now) text.old (S.state out.old) text.new (S.state out.new) }
+{
+    if bytes.is_empty() {
+        return text.word(out, b"-");
+    }
+    if bytes.len() <= FEW {
+        return put_few(bytes, text, out);
+    }
+    put_pieces(bytes, text, out);
+}
