@@ -1,5 +1,5 @@
 -- Hex text, digit by digit and piece by piece.
-use Rattle.std.proofs.Common.{◌≡◌, ℕ, zero, suc, ◌+◌, ◌-◌, ◌<◌, ◌≤◌, arith, List, [], ◌∷◌, ◌++◌, refl, sym, ap, subst, ◌∙◌, append_assoc}
+use Rattle.std.proofs.Common.{◌≡◌, ℕ, zero, suc, ◌+◌, ◌-◌, ◌*◌, ◌<◌, ◌≤◌, arith, List, [], ◌∷◌, ◌++◌, length, refl, sym, ap, subst, ◌∙◌, append_assoc}
 use Rattle.std.specs.Prelude.{slice_index, ◌/◌, ◌%◌}
 use Rattle.std.proofs.lemmas.List.{append-nil}
 use Rattle.hex.specs.Hex.{encode_with, encode_lower, lower_digits}
@@ -38,10 +38,15 @@ pub ruleset lower_digit_is = (digit_low, digit_high)
 
 -- ---- pieces
 
-encode-append : (t xs ys : List ℕ) → encode_with t (xs ++ ys) ≡ encode_with t xs ++ encode_with t ys
+pub encode-append : (t xs ys : List ℕ) → encode_with t (xs ++ ys) ≡ encode_with t xs ++ encode_with t ys
 unfolding encode_with
 encode-append t [] ys = refl
 encode-append t (x ∷ xs) ys = ap (λ r. slice_index t (x / 16) ∷ slice_index t (x % 16) ∷ r) (encode-append t xs ys)
+
+pub encoded-long : (t xs : List ℕ) → length (encode_with t xs) ≡ 2 * length xs
+unfolding encode_with
+encoded-long t [] = refl
+encoded-long t (x ∷ xs) = ap (λ n. suc (suc n)) (encoded-long t xs) ∙ omega arith
 
 -- the hex text of a front of the bytes was added
 pub record Spelled (bytes rest : List ℕ) (w : TextState) (s : SinkState) (w_now : TextState) (now : SinkState) : Type 0 where

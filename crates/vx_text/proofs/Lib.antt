@@ -3,3 +3,4 @@ pub mod HexLemmas
 pub mod NumberLemmas
 pub mod OptionLemmas
 pub mod TextLemmas
+pub mod VectorLemmas

@@ -1,11 +1,18 @@
 //! Bytes as hex text.
-ghost use Rattle.std.specs.Prelude.{◌≡◌, ◌*◌, ◌<◌, ◌≤◌, length, slice_index};
+ghost use Rattle.std.specs.Prelude.{◌≡◌, ◌*◌, ◌/◌, ◌%◌, ◌<◌, ◌≤◌, length, map, slice_index};
 ghost use Rattle.hex.specs.Hex.{encode_lower, lower_digits};
 ghost use Rattle.vx_text.specs.Hexadecimal.{hex_text};
 ghost use Rattle.vx_text.specs.Text.{Adds};
 
 use crate::text::TextOut;
+use std::simd::prelude::*;
 use vx_base::Sink;
+
+/// The lower case digits.
+const DIGITS: [u8; 16] = *b"0123456789abcdef";
+
+/// So many bytes fit a vector.
+const LANES: usize = 16;
 
 /// How many bytes are spelled at once.
 const PIECE: usize = 8192;
@@ -13,7 +20,7 @@ const PIECE: usize = 8192;
 /// So few bytes take little room.
 const FEW: usize = 64;
 
-/// The lower case digit of a number below 16. It is reckoned and not looked up, so that a processor finds many at once.
+/// The lower case digit of a number below 16.
 #[inline(always)]
 #[tactic(auto, using(crate::proofs::HexLemmas::lower_digit_is))]
 fn lower_digit(number: u8) -> u8
@@ -27,12 +34,47 @@ fn lower_digit(number: u8) -> u8
     }
 }
 
-/// Spells bytes in lower case digits.
+/// The digits of the high halves of bytes.
+#[inline(always)]
+fn high_digits(bytes: u8x16) -> u8x16
+    ensures { result ≡ map (λ byte. slice_index lower_digits (byte / 16)) bytes }
+{
+    u8x16::from_array(DIGITS).swizzle_dyn(bytes >> u8x16::splat(4))
+}
+
+/// The digits of the low halves of bytes.
+#[inline(always)]
+fn low_digits(bytes: u8x16) -> u8x16
+    ensures { result ≡ map (λ byte. slice_index lower_digits (byte % 16)) bytes }
+{
+    u8x16::from_array(DIGITS).swizzle_dyn(bytes & u8x16::splat(15))
+}
+
+/// The digits of bytes, those of each byte beside one another.
+#[inline(always)]
+fn digits_of(bytes: u8x16) -> u8x32
+    ensures { result ≡ encode_lower bytes }
+{
+    high_digits(bytes).shuffle(
+        low_digits(bytes),
+        [
+            0, 16, 1, 17, 2, 18, 3, 19, 4, 20, 5, 21, 6, 22, 7, 23, 8, 24, 9, 25, 10, 26, 11, 27,
+            12, 28, 13, 29, 14, 30, 15, 31,
+        ],
+    )
+}
+
+/// Spells bytes in lower case digits: sixteen at a time, and then those that are left.
 fn spell(bytes: &[u8], digits: &mut [u8])
     requires { length digits.old ≡ 2 * length bytes.now }
     ensures { digits.new ≡ encode_lower bytes.now }
 {
-    for at in 0..bytes.len() {
+    let blocks = bytes.len() / LANES;
+    for block in 0..blocks {
+        let vector = u8x16::from_slice(&bytes[LANES * block..]);
+        digits_of(vector).copy_to_slice(&mut digits[2 * LANES * block..]);
+    }
+    for at in LANES * blocks..bytes.len() {
         let byte = bytes[at];
         digits[2 * at] = lower_digit(byte / 16);
         digits[2 * at + 1] = lower_digit(byte % 16);
