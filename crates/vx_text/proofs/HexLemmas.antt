@@ -38,15 +38,10 @@ pub ruleset lower_digit_is = (digit_low, digit_high)
 
 -- ---- pieces
 
-pub encode-append : (t xs ys : List ℕ) → encode_with t (xs ++ ys) ≡ encode_with t xs ++ encode_with t ys
+encode-append : (t xs ys : List ℕ) → encode_with t (xs ++ ys) ≡ encode_with t xs ++ encode_with t ys
 unfolding encode_with
 encode-append t [] ys = refl
 encode-append t (x ∷ xs) ys = ap (λ r. slice_index t (x / 16) ∷ slice_index t (x % 16) ∷ r) (encode-append t xs ys)
-
-pub encoded-long : (t xs : List ℕ) → length (encode_with t xs) ≡ 2 * length xs
-unfolding encode_with
-encoded-long t [] = refl
-encoded-long t (x ∷ xs) = ap (λ n. suc (suc n)) (encoded-long t xs) ∙ omega arith
 
 -- the hex text of a front of the bytes was added
 pub record Spelled (bytes rest : List ℕ) (w : TextState) (s : SinkState) (w_now : TextState) (now : SinkState) : Type 0 where
@@ -68,5 +63,6 @@ spelled-more bytes piece rest rest' w w1 w2 s s1 s2 split h k = record {
   adds = subst (λ b. Adds b w s w2 s2) (sym (encode-append lower_digits h.front piece)) (adds_then h.adds k);
 }
 
-pub spelled-all : (bytes : List ℕ) (w w1 : TextState) (s s1 : SinkState) → Spelled bytes [] w s w1 s1 → Adds (encode_lower bytes) w s w1 s1
-spelled-all bytes w w1 s s1 h = subst (λ b. Adds (encode_lower b) w s w1 s1) (sym (append-nil h.front) ∙ h.whole) h.adds
+pub spelled-all : (bytes rest : List ℕ) (w w1 w2 : TextState) (s s1 s2 : SinkState) → Spelled bytes rest w s w1 s1 → Adds (encode_lower rest) w1 s1 w2 s2 → Adds (encode_lower bytes) w s w2 s2
+spelled-all bytes rest w w1 w2 s s1 s2 h k =
+    subst (λ b. Adds (encode_lower b) w s w2 s2) h.whole (subst (λ b. Adds b w s w2 s2) (sym (encode-append lower_digits h.front rest)) (adds_then h.adds k))

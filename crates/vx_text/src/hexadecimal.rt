@@ -14,12 +14,6 @@ const DIGITS: [u8; 16] = *b"0123456789abcdef";
 /// So many bytes fit a vector.
 const LANES: usize = 16;
 
-/// How many bytes are spelled at once.
-const PIECE: usize = 8192;
-
-/// So few bytes take little room.
-const FEW: usize = 64;
-
 /// The lower case digit of a number below 16.
 #[inline(always)]
 #[tactic(auto, using(crate::proofs::HexLemmas::lower_digit_is))]
@@ -64,55 +58,50 @@ fn digits_of(bytes: u8x16) -> u8x32
     )
 }
 
-/// Spells bytes in lower case digits: sixteen at a time, and then those that are left.
+/// Spells bytes in lower case digits.
 fn spell(bytes: &[u8], digits: &mut [u8])
     requires { length digits.old ≡ 2 * length bytes.now }
     ensures { digits.new ≡ encode_lower bytes.now }
 {
-    let blocks = bytes.len() / LANES;
-    for block in 0..blocks {
-        let vector = u8x16::from_slice(&bytes[LANES * block..]);
-        digits_of(vector).copy_to_slice(&mut digits[2 * LANES * block..]);
-    }
-    for at in LANES * blocks..bytes.len() {
+    for at in 0..bytes.len() {
         let byte = bytes[at];
         digits[2 * at] = lower_digit(byte / 16);
         digits[2 * at + 1] = lower_digit(byte % 16);
     }
 }
 
-/// Adds few bytes as lower case digits.
+/// Adds the digits of as many bytes as fit a vector.
+#[inline(always)]
+fn put_vector<S: Sink>(bytes: &[u8], text: &mut TextOut, out: &mut S)
+    requires { length bytes.now ≡ 16 }
+    ensures { Adds (encode_lower bytes.now) text.old (S.state out.old) text.new (S.state out.new) }
+{
+    let digits = digits_of(u8x16::from_slice(bytes));
+    text.word(out, digits.as_array());
+}
+
+/// Adds the digits of fewer bytes.
 fn put_few<S: Sink>(bytes: &[u8], text: &mut TextOut, out: &mut S)
-    requires { length bytes.now ≤ 64 }
+    requires { length bytes.now < 16 }
     ensures { Adds (encode_lower bytes.now) text.old (S.state out.old) text.new (S.state out.new) }
 {
-    let mut digits = [0u8; 2 * FEW];
+    let mut digits = [0u8; 2 * LANES];
     let room = &mut digits[..2 * bytes.len()];
     spell(bytes, room);
     text.word(out, room);
 }
 
-/// Adds at most so many bytes as are spelled at once.
-fn put_piece<S: Sink>(bytes: &[u8], text: &mut TextOut, out: &mut S)
-    requires { length bytes.now ≤ 8192 }
-    ensures { Adds (encode_lower bytes.now) text.old (S.state out.old) text.new (S.state out.new) }
-{
-    let mut digits = [0u8; 2 * PIECE];
-    let room = &mut digits[..2 * bytes.len()];
-    spell(bytes, room);
-    text.word(out, room);
-}
-
-/// Adds bytes, of which there are some, piece by piece.
-fn put_pieces<S: Sink>(bytes: &[u8], text: &mut TextOut, out: &mut S)
+/// Adds the digits of bytes.
+fn put_digits_of<S: Sink>(bytes: &[u8], text: &mut TextOut, out: &mut S)
     ensures { Adds (encode_lower bytes.now) text.old (S.state out.old) text.new (S.state out.new) }
 {
     let mut rest = bytes;
-    while !rest.is_empty() {
-        let (piece, behind) = rest.split_at(rest.len().min(PIECE));
-        put_piece(piece, text, out);
+    while rest.len() >= LANES {
+        let (front, behind) = rest.split_at(LANES);
+        put_vector(front, text, out);
         rest = behind;
     }
+    put_few(rest, text, out);
 }
 
 /// Adds bytes as lower case digits, `-` for none.
@@ -122,8 +111,5 @@ pub fn put_hex<S: Sink>(bytes: &[u8], text: &mut TextOut, out: &mut S)
     if bytes.is_empty() {
         return text.word(out, b"-");
     }
-    if bytes.len() <= FEW {
-        return put_few(bytes, text, out);
-    }
-    put_pieces(bytes, text, out);
+    put_digits_of(bytes, text, out);
 }

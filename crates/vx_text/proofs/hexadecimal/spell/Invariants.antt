@@ -1,9 +1,7 @@
-use Rattle.std.proofs.Common.{◌*◌}
-use Rattle.vx_text.proofs.VectorLemmas.{AreSpelled}
+use Rattle.std.proofs.Common.{◌≡◌, ◌*◌, ◌++◌, length, take, drop}
+use Rattle.hex.specs.Hex.{encode_lower}
 use Rattle.vx_text.proofs.hexadecimal.spell.Given as goal
 
-abbrev pub invariant-loop-block : goal.invariant-loop-block
-invariant-loop-block l = AreSpelled l.bytes l.digits (16 * l.block)
-
+-- the digits so far, with those still to come
 abbrev pub invariant-loop-at : goal.invariant-loop-at
-invariant-loop-at l = AreSpelled l.bytes l.digits l.at
+invariant-loop-at l = take (2 * l.at) l.digits ++ encode_lower (drop l.at l.bytes) ≡ encode_lower l.bytes
