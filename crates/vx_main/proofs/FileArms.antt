@@ -18,7 +18,7 @@ use Rattle.vx_write.specs.Taken.{Checked, SinkCause}
 use Rattle.vx_write.specs.Written.{IsChunk, begin_checks, push_checks, end_checks, sent, written, whole, chunks_sent}
 use Rattle.vx_write.specs.declared.summary.WriteSummary.{WriteSummary}
 use Rattle.vx_main.specs.RowsFiles.{file_checks, refusal_in, told, WritesFile}
-use Rattle.vx_main.specs.Tables.{IsTable}
+use Rattle.vx_generate.specs.Tables.{IsTable}
 use Rattle.vx_main.specs.WriteWords.{options_of}
 use Rattle.vx_main.specs.declared.rows_file.RowsFile.{RowsFile}
 

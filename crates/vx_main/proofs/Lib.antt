@@ -2,7 +2,6 @@ pub mod Arms
 pub mod DemoArms
 pub mod FileArms
 pub mod FooterText
-pub mod GeneratedLemmas
 pub mod LayoutLines
 pub mod Lines
 pub mod Lists

@@ -20,7 +20,7 @@ use Rattle.vx_write.specs.Written.{rows_after}
 use Rattle.vx_write.specs.declared.summary.WriteSummary.{WriteSummary}
 use Rattle.vx_main.specs.MadeFiles.{made_bytes, file_refusal, IsMade, MakesFile}
 use Rattle.vx_main.specs.RowsFiles.{file_checks}
-use Rattle.vx_main.specs.Tables.{IsTable}
+use Rattle.vx_generate.specs.Tables.{IsTable}
 use Rattle.vx_main.specs.declared.failure.Failure.{Failure}
 use Rattle.vx_main.specs.declared.made_file.MadeFile.{MadeFile}
 use Rattle.vx_main.proofs.FileArms.{file-checked, whole-file, refused-file}

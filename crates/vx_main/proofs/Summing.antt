@@ -26,7 +26,8 @@ use Rattle.vx_main.specs.declared.failure.Failure.TheVariants as failures
 use Rattle.vx_main.specs.declared.made_file.MadeFile.{MadeFile}
 use Rattle.vx_main.specs.declared.summary.FileSummary.{FileSummary}
 use Rattle.vx_main.specs.Command.{gen_of}
-use Rattle.vx_main.specs.Generated.{is_there, generated, generated_dtype, gen_options, gen_bytes, gen_refusal}
+use Rattle.vx_generate.specs.Generated.{is_there, generated, generated_dtype}
+use Rattle.vx_main.specs.Generated.{gen_options, gen_bytes, gen_refusal}
 use Rattle.vx_main.specs.MadeFiles.{made_bytes, IsMade, MakesFile}
 use Rattle.vx_main.specs.Outputs.{refusal_status}
 use Rattle.vx_main.specs.Runs.{Gathers}

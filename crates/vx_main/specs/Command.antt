@@ -9,7 +9,7 @@ use Rattle.vx_main.specs.declared.command.Command.{Command}
 use Rattle.vx_main.specs.declared.command.Command.TheVariants.{Help, Version, Serve, Demo, Sizes, Prune, Scan, Write, Gen}
 use Rattle.vx_file.specs.Hints.{Hints, no_hints}
 use Rattle.vx_main.specs.declared.commands.generate.Generate as generate
-use Rattle.vx_main.specs.declared.generated_bytes.TheConstants.{MOST_ROWS}
+use Rattle.vx_generate.specs.declared.generated_bytes.TheConstants.{MOST_ROWS}
 use Rattle.vx_main.specs.declared.commands.serve.Serve as serve
 use Rattle.vx_main.specs.declared.commands.sizes.Sizes as sizes
 use Rattle.vx_main.specs.declared.commands.prune.Prune as prune

@@ -7,7 +7,8 @@ use Rattle.vx_footer.specs.Opening.{vx_grammar}
 use Rattle.vx_rows.specs.LayoutRows.{rows_of}
 use Rattle.vx_write.specs.ColumnSizes.{HasColumnSizes}
 use Rattle.vx_write.specs.OpensAgain.{slices}
-use Rattle.vx_main.specs.Generated.{generated, gen_bytes, gen_refusal}
+use Rattle.vx_generate.specs.Generated.{generated}
+use Rattle.vx_main.specs.Generated.{gen_bytes, gen_refusal}
 use Rattle.vx_main.specs.declared.failure.Failure.{Failure}
 use Rattle.vx_main.specs.declared.failure.Failure.TheVariants as failures
 use Rattle.vx_main.specs.declared.summary.FileSummary.{FileSummary}

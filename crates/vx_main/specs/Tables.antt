@@ -1,11 +1,11 @@
 -- The rows that an input spells: a line with their type, and a line for each of them.
-use Rattle.std.specs.Prelude.{◌≡◌, ℕ, ◌+◌, ◌<◌, ◌^◌, nat_lt, if◌then◌else◌, ◌==◌, List, [], ◌∷◌, map, Option, Some, None, Result, Ok, Err}
+use Rattle.std.specs.Prelude.{◌≡◌, ℕ, ◌+◌, nat_lt, if◌then◌else◌, ◌==◌, List, [], ◌∷◌, map, Option, Some, None, Result, Ok, Err}
 use Rattle.vx_base.specs.Counts.{Rises}
 use Rattle.vx_base.specs.Streams.{SourceState}
 use Rattle.vx_data.specs.Dtype.{Dtype}
 use Rattle.vx_data.specs.TextsRead.{dtype_of_text}
 use Rattle.vx_rows.specs.ReadRows.{rows_of}
-use Rattle.vx_rows.specs.Rows.{Rows, rows_len, dtype_of, IsColumn}
+use Rattle.vx_rows.specs.Rows.{Rows}
 use Rattle.vx_rows.specs.declared.rows_error.RowsError.{RowsError}
 use Rattle.vx_rows.specs.declared.rows_error.RowsError.TheVariants.{BadLine, OutOfMemory}
 use Rattle.vx_main.specs.declared.failure.Failure.{Failure}
@@ -16,12 +16,6 @@ use Rattle.vx_main.specs.Input.{BadLength}
 pub record TableValue : Type 0 where
   pub dtype : Dtype
   pub rows : Rows
-
--- a column of the type
-pub record IsTable (d : Dtype) (c : Rows) : Type 0 where
-  pub typed : dtype_of c ≡ d
-  pub even : IsColumn (rows_len c) c
-  pub few : rows_len c < 2 ^ 64
 
 -- no type and no value is spelled with a byte that is not ASCII, or with 0: the first reads as the second
 abbrev pub as_ascii : ℕ → ℕ

@@ -1,7 +1,7 @@
 //! A file of rows in memory.
 ghost use Rattle.vx_data.specs.Dtype.{dtype_view};
 ghost use Rattle.vx_main.specs.MadeFiles.{MakesFile};
-ghost use Rattle.vx_main.specs.Tables.{IsTable};
+ghost use Rattle.vx_generate.specs.Tables.{IsTable};
 ghost use Rattle.vx_rows.specs.Rows.{column_view};
 
 use crate::failure::Failure;

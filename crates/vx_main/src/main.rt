@@ -6,8 +6,6 @@ mod command;
 mod commands;
 mod failure;
 mod filter;
-mod generated_bytes;
-mod generating;
 mod input;
 mod laws;
 mod made_file;

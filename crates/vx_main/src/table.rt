@@ -6,7 +6,8 @@ ghost use Rattle.std.specs.Str.{IsAscii};
 ghost use Rattle.vx_base.specs.Streams.{SameSource};
 ghost use Rattle.vx_data.specs.Dtype.{dtype_view};
 ghost use Rattle.vx_rows.specs.Rows.{column_view};
-ghost use Rattle.vx_main.specs.Tables.{as_ascii, first_line, behind_line, IsTable, RowsCause, TableCause, InputTableCause};
+ghost use Rattle.vx_generate.specs.Tables.{IsTable};
+ghost use Rattle.vx_main.specs.Tables.{as_ascii, first_line, behind_line, RowsCause, TableCause, InputTableCause};
 
 use crate::failure::Failure;
 use crate::input::{InputError, read_input};
@@ -30,7 +31,8 @@ impl Model for Table {
     ghost use Rattle.std.specs.Coded.{codes};
     ghost use Rattle.vx_footer.specs.DtypeCode.{dtype_code};
     ghost use Rattle.vx_rows.specs.RowsCode.{rows_code};
-    ghost use Rattle.vx_main.specs.Tables.{TableValue, IsTable};
+    ghost use Rattle.vx_generate.specs.Tables.{IsTable};
+    ghost use Rattle.vx_main.specs.Tables.{TableValue};
 
     ghost Value = { TableValue };
 

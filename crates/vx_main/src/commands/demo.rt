@@ -8,7 +8,7 @@ ghost use Rattle.vx_main.specs.Demo.{demo_dtype, demo_options, demo_rows, DemoCa
 ghost use Rattle.vx_main.specs.MadeFiles.{MakesFile};
 ghost use Rattle.vx_main.specs.Outside.{Keeps};
 ghost use Rattle.vx_main.specs.Runs.{Gathers};
-ghost use Rattle.vx_main.specs.Tables.{IsTable};
+ghost use Rattle.vx_generate.specs.Tables.{IsTable};
 ghost use Rattle.vx_main.specs.declared.command.Command.TheVariants as commands;
 ghost use Rattle.vx_rows.specs.Rows.{column_view, AreWithin};
 

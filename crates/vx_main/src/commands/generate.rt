@@ -8,20 +8,20 @@ ghost use Rattle.vx_footer.specs.FieldSizes.{missing};
 ghost use Rattle.vx_footer.specs.Opening.{vx_grammar};
 ghost use Rattle.vx_write.specs.ColumnSizes.{HasColumnSizes};
 ghost use Rattle.vx_main.specs.Command.{bounded, gen_of, Parses};
-ghost use Rattle.vx_main.specs.Generated.{generated as rows_from, generated_dtype, gen_options};
+ghost use Rattle.vx_generate.specs.Generated.{generated as rows_from, generated_dtype};
+ghost use Rattle.vx_main.specs.Generated.{gen_options};
 ghost use Rattle.vx_main.specs.MadeFiles.{MakesFile};
 ghost use Rattle.vx_text.specs.Numbers.{number_of};
 ghost use Rattle.vx_main.specs.Outside.{Keeps};
 ghost use Rattle.vx_main.specs.Runs.{Gathers};
 ghost use Rattle.vx_main.specs.Summaries.{SummaryCause};
 ghost use Rattle.vx_main.specs.declared.command.Command.TheVariants as commands;
-ghost use Rattle.vx_main.specs.declared.generated_bytes.TheConstants.{MOST_ROWS};
+ghost use Rattle.vx_generate.specs.declared.generated_bytes.TheConstants.{MOST_ROWS};
 
 use crate::answer::Answer;
 use crate::command::Command;
 use crate::failure::Failure;
-use crate::generated_bytes::MOST_ROWS;
-use crate::generating::generated;
+use vx_generate::{MOST_ROWS, generated};
 use crate::made_file::MadeFile;
 use vx_text::number;
 use crate::summary::FileSummary;
@@ -42,7 +42,7 @@ pub struct RowCount {
 
 impl Model for RowCount {
     ghost use Rattle.std.specs.Prelude.{ℕ, ◌≤◌};
-    ghost use Rattle.vx_main.specs.declared.generated_bytes.TheConstants.{MOST_ROWS};
+    ghost use Rattle.vx_generate.specs.declared.generated_bytes.TheConstants.{MOST_ROWS};
 
     ghost Value = { ℕ };
 

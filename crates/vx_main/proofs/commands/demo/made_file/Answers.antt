@@ -2,7 +2,7 @@ use Rattle.std.proofs.Common.{subst, sym}
 use Rattle.vx_data.specs.Dtype.{dtype_view}
 use Rattle.vx_rows.specs.Rows.{column_view}
 use Rattle.vx_main.specs.Demo.{demo_dtype, demo_options, demo_rows}
-use Rattle.vx_main.specs.Tables.{IsTable}
+use Rattle.vx_generate.specs.Tables.{IsTable}
 use Rattle.vx_main.proofs.MadeArms.{makes-same}
 use Rattle.vx_main.proofs.commands.demo.made_file.Goals as goal
 

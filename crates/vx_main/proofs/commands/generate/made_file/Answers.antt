@@ -1,7 +1,8 @@
 use Rattle.std.proofs.Common.{subst}
 use Rattle.vx_data.specs.Dtype.{dtype_view}
 use Rattle.vx_rows.specs.Rows.{column_view}
-use Rattle.vx_main.specs.Generated.{generated_dtype, gen_options}
+use Rattle.vx_generate.specs.Generated.{generated_dtype}
+use Rattle.vx_main.specs.Generated.{gen_options}
 use Rattle.vx_main.specs.MadeFiles.{MakesFile}
 use Rattle.vx_main.proofs.commands.generate.made_file.Goals as goal
 

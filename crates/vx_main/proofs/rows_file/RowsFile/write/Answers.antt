@@ -7,7 +7,7 @@ use Rattle.vx_footer.specs.ReadAgain.{content_read}
 use Rattle.vx_write.specs.OpensAgain.{OpensAgain}
 use Rattle.vx_write.specs.RowsWritten.{pushes, RowsAnswer, RowsLeave}
 use Rattle.vx_main.specs.RowsFiles.{WritesFile}
-use Rattle.vx_main.specs.Tables.{IsTable}
+use Rattle.vx_generate.specs.Tables.{IsTable}
 use Rattle.vx_main.specs.WriteWords.{options_of}
 use Rattle.vx_main.proofs.FileArms.{writes-file, carried}
 use Rattle.vx_main.proofs.rows_file.RowsFile.write.Goals as goal

@@ -1,4 +1,0 @@
-use Rattle.vx_main.proofs.generating.push_field.Goals as goal
-
-pub returns : goal.returns
-returns c = (c.in_ok-field.field, c.in_ok-push.ensures.items, c.in_ok-field.ensures.name, c.in_ok-field.ensures.column)
