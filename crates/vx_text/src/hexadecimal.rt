@@ -1,8 +1,8 @@
 //! Bytes as hex text.
-ghost use Rattle.std.specs.Prelude.{◌≡◌, ◌*◌, ◌/◌, ◌%◌, ◌<◌, ◌≤◌, length, map, slice_index};
+ghost use Rattle.std.specs.Prelude.{◌≡◌, ◌∷◌, [], ◌+◌, ◌*◌, ◌/◌, ◌%◌, ◌<◌, ◌≤◌, length, map, slice_index};
 ghost use Rattle.hex.specs.Hex.{encode_lower, lower_digits};
 ghost use Rattle.vx_text.specs.Hexadecimal.{hex_text};
-ghost use Rattle.vx_text.specs.Text.{Adds};
+ghost use Rattle.vx_text.specs.Text.{Adds, Holds};
 
 use crate::text::TextOut;
 use std::simd::prelude::*;
@@ -13,6 +13,9 @@ const DIGITS: [u8; 16] = *b"0123456789abcdef";
 
 /// So many bytes fit a vector.
 const LANES: usize = 16;
+
+/// For the digits of at most so many bytes room is made at once.
+const PIECE: usize = 2048;
 
 /// The lower case digit of a number below 16.
 #[inline(always)]
@@ -58,50 +61,57 @@ fn digits_of(bytes: u8x16) -> u8x32
     )
 }
 
-/// Spells bytes in lower case digits.
-fn spell(bytes: &[u8], digits: &mut [u8])
-    requires { length digits.old ≡ 2 * length bytes.now }
-    ensures { digits.new ≡ encode_lower bytes.now }
+/// Puts the digits of a byte, for which there is room.
+#[inline(always)]
+fn put_byte(byte: u8, text: &mut TextOut)
+    requires { length text.old.held + 2 ≤ 32768 }
+    ensures holds { Holds (encode_lower (byte ∷ [])) text.old text.new }
+    ensures long { length text.new.held ≡ length text.old.held + 2 }
 {
-    for at in 0..bytes.len() {
-        let byte = bytes[at];
-        digits[2 * at] = lower_digit(byte / 16);
-        digits[2 * at + 1] = lower_digit(byte % 16);
-    }
+    text.push(lower_digit(byte / 16));
+    text.push(lower_digit(byte % 16));
 }
 
-/// Adds the digits of as many bytes as fit a vector.
+/// Puts the digits of as many bytes as fit a vector, for which there is room.
 #[inline(always)]
-fn put_vector<S: Sink>(bytes: &[u8], text: &mut TextOut, out: &mut S)
-    requires { length bytes.now ≡ 16 }
-    ensures { Adds (encode_lower bytes.now) text.old (S.state out.old) text.new (S.state out.new) }
+fn put_vector(bytes: &[u8], text: &mut TextOut)
+    requires whole { length bytes.now ≡ 16 }
+    requires room { length text.old.held + 32 ≤ 32768 }
+    ensures holds { Holds (encode_lower bytes.now) text.old text.new }
+    ensures long { length text.new.held ≡ length text.old.held + 32 }
 {
     let digits = digits_of(u8x16::from_slice(bytes));
-    text.word(out, digits.as_array());
+    text.put(digits.as_array());
 }
 
-/// Adds the digits of fewer bytes.
-fn put_few<S: Sink>(bytes: &[u8], text: &mut TextOut, out: &mut S)
-    requires { length bytes.now < 16 }
-    ensures { Adds (encode_lower bytes.now) text.old (S.state out.old) text.new (S.state out.new) }
-{
-    let mut digits = [0u8; 2 * LANES];
-    let room = &mut digits[..2 * bytes.len()];
-    spell(bytes, room);
-    text.word(out, room);
-}
-
-/// Adds the digits of bytes.
-fn put_digits_of<S: Sink>(bytes: &[u8], text: &mut TextOut, out: &mut S)
-    ensures { Adds (encode_lower bytes.now) text.old (S.state out.old) text.new (S.state out.new) }
+/// Puts the digits of bytes, for which there is room: of as many as fit a vector at a time, and then of each that is left.
+fn put_bytes(bytes: &[u8], text: &mut TextOut)
+    requires { length text.old.held + 2 * length bytes.now ≤ 32768 }
+    ensures { Holds (encode_lower bytes.now) text.old text.new }
 {
     let mut rest = bytes;
     while rest.len() >= LANES {
         let (front, behind) = rest.split_at(LANES);
-        put_vector(front, text, out);
+        put_vector(front, text);
         rest = behind;
     }
-    put_few(rest, text, out);
+    while let Some((byte, behind)) = rest.split_first() {
+        put_byte(*byte, text);
+        rest = behind;
+    }
+}
+
+/// Adds the digits of bytes, piece by piece.
+fn put_pieces<S: Sink>(bytes: &[u8], text: &mut TextOut, out: &mut S)
+    ensures { Adds (encode_lower bytes.now) text.old (S.state out.old) text.new (S.state out.new) }
+{
+    let mut left = bytes;
+    while !left.is_empty() {
+        let (piece, behind) = left.split_at(left.len().min(PIECE));
+        text.make_room_for(out, 2 * piece.len());
+        put_bytes(piece, text);
+        left = behind;
+    }
 }
 
 /// Adds bytes as lower case digits, `-` for none.
@@ -111,5 +121,5 @@ pub fn put_hex<S: Sink>(bytes: &[u8], text: &mut TextOut, out: &mut S)
     if bytes.is_empty() {
         return text.word(out, b"-");
     }
-    put_digits_of(bytes, text, out);
+    put_pieces(bytes, text, out);
 }

@@ -116,16 +116,36 @@ impl TextOut {
         self.send_word(out, &[byte]);
     }
 
+    /// Makes room for so many bytes.
+    #[inline(always)]
+    pub(crate) fn make_room_for<S: Sink>(&mut self, out: &mut S, size: usize)
+        requires { size ≤ 32768 }
+        ensures adds { Adds [] self.old (S.state out.old) self.new (S.state out.new) }
+        ensures room { length self.new.held + size ≤ 32768 }
+    {
+        if self.held.remaining_capacity() >= size {
+            return;
+        }
+        self.send(out);
+    }
+
     /// Makes room for what is put and not added.
     #[inline(always)]
     pub fn make_room<S: Sink>(&mut self, out: &mut S)
         ensures adds { Adds [] self.old (S.state out.old) self.new (S.state out.new) }
         ensures room { length self.new.held + 32 ≤ 32768 }
     {
-        if self.held.remaining_capacity() >= SPARE {
-            return;
-        }
-        self.send(out);
+        self.make_room_for(out, SPARE);
+    }
+
+    /// Puts bytes, for which there is room.
+    #[inline(always)]
+    pub(crate) fn put(&mut self, bytes: &[u8])
+        requires { length self.old.held + length bytes.now ≤ 32768 }
+        ensures holds { Holds bytes.now self.old self.new }
+        ensures long { length self.new.held ≡ length self.old.held + length bytes.now }
+    {
+        let _fits = self.held.try_extend_from_slice(bytes);
     }
 
     /// Puts one byte, for which there is room.

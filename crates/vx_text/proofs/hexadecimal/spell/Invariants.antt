@@ -1,7 +1,0 @@
-use Rattle.std.proofs.Common.{◌≡◌, ◌*◌, ◌++◌, take, drop}
-use Rattle.hex.specs.Hex.{encode_lower}
-use Rattle.vx_text.proofs.hexadecimal.spell.Given as goal
-
--- the digits so far, with those still to come
-abbrev pub invariant-loop-at : goal.invariant-loop-at
-invariant-loop-at l = take (2 * l.at) l.digits ++ encode_lower (drop l.at l.bytes) ≡ encode_lower l.bytes
