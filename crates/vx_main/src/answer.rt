@@ -16,10 +16,10 @@ use crate::printable::Printable;
 use crate::printable_rows::PrintableRows;
 use crate::rows_file::RowsFile;
 use crate::summary::FileSummary;
-use vx_text::TextOut;
 use std::alloc::Global;
 use vx_base::{Sink, SinkError};
 use vx_footer::CompressedFieldSizes;
+use vx_text::TextOut;
 
 const VERSION: &[u8] = b"vx 0.1.0\n";
 

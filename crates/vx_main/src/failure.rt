@@ -8,12 +8,12 @@ ghost use Rattle.vx_base.specs.Streams.{SameSink};
 use crate::name::Name;
 use crate::print::fault::put_fault;
 use crate::refusal::{array_error_name, bind_error_name, refusal_name, write_error_name};
-use vx_text::TextOut;
 use std::alloc::{AllocError, Global};
 use vx_base::{Sink, SinkError};
 use vx_footer::{OpenError, WriteError};
 use vx_rows::{ArrayError, BindError};
 use vx_sched::{Fault, Place};
+use vx_text::TextOut;
 
 /// Why no text was printed, or not all of it.
 #[derive(Drop)]

@@ -9,11 +9,11 @@ ghost use Rattle.vx_data.specs.declared.text_error.TextError.TheVariants.{BadTex
 ghost use Rattle.vx_footer.specs.Serializing.{values_view};
 ghost use Rattle.vx_main.specs.MetadataWords.{is_lower, bytes_in_hex, entry_of, entries_of};
 
-use vx_text::{Shape, behind, first, value_count};
 use hex::FromHexError;
 use std::alloc::Global;
 use vx_base::{Alignment, ByteBuffer};
 use vx_data::{TextError, unquote};
+use vx_text::{Shape, behind, first, value_count};
 
 const META: &str = "--meta";
 

@@ -4,9 +4,9 @@ ghost use Rattle.std.specs.Prelude.{◌≡◌, ◌+◌, ◌≤◌, length, drop}
 ghost use Rattle.vx_text.specs.Numbers.{number_of};
 ghost use Rattle.vx_main.specs.Script.{register_of, poll_of, drop_of, numbered_step, step_of, lines_of, line_length, script_of, Reads};
 
-use vx_text::number;
 use std::alloc::{AllocError, Global};
 use vx_file::{Script, Step};
+use vx_text::number;
 
 /// Why a script could not be read.
 #[derive(Clone, Copy, Debug, PartialEq, Eq)]

@@ -121,11 +121,7 @@ pub fn first(words: &[String], count: usize) -> &[String]
 
 /// The values of the first option of this word.
 #[tactic(auto, using(crate::proofs::OptionLemmas::values_none))]
-pub fn values_of<'a>(
-    shapes: &[Shape],
-    wanted: &str,
-    words: &'a [String],
-) -> Option<&'a [String]>
+pub fn values_of<'a>(shapes: &[Shape], wanted: &str, words: &'a [String]) -> Option<&'a [String]>
     ensures { option_map (λ values. map string_bytes values.now) result ≡ values_in shapes.now wanted.now (map string_bytes words.now) }
 {
     let mut rest = words;

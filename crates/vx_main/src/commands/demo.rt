@@ -17,7 +17,6 @@ use crate::command::Command;
 use crate::failure::Failure;
 use crate::input::load_script;
 use crate::made_file::MadeFile;
-use vx_text::value;
 use crate::printable::Printable;
 use std::alloc::{AllocError, Global};
 use std::marker::Model;
@@ -25,6 +24,7 @@ use vx_base::{Alignment, ByteBuffer, Source};
 use vx_data::{DType, PType, VortexSession};
 use vx_file::{Script, ServeError, Served, serve_in_memory};
 use vx_rows::Column;
+use vx_text::value;
 use vx_write::VortexWriteOptions;
 
 /// The values of a demonstration.

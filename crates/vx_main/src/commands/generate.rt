@@ -21,9 +21,7 @@ ghost use Rattle.vx_generate.specs.declared.generated_bytes.TheConstants.{MOST_R
 use crate::answer::Answer;
 use crate::command::Command;
 use crate::failure::Failure;
-use vx_generate::{MOST_ROWS, generated};
 use crate::made_file::MadeFile;
-use vx_text::number;
 use crate::summary::FileSummary;
 use itoa::Buffer;
 use std::alloc::{AllocError, Global};
@@ -32,6 +30,8 @@ use vx_base::{Alignment, ByteBuffer, Sequence};
 use vx_data::VortexSession;
 use vx_file::{Script, ServeError, serve_in_memory};
 use vx_footer::SizesError;
+use vx_generate::{MOST_ROWS, generated};
+use vx_text::number;
 use vx_write::{VortexWriteOptions, WriteSummary};
 
 /// How many rows are generated.

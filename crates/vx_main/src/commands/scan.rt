@@ -16,13 +16,13 @@ use crate::command::Command;
 use crate::failure::Failure;
 use crate::filter::Filter;
 use crate::name::Name;
-use vx_text::{Shape, are_options, values_of};
 use crate::printable_rows::PrintableRows;
 use crate::row_type::RowType;
 use crate::scanning::scan_name;
 use std::alloc::{AllocError, Global};
 use vx_base::Opener;
 use vx_rows::{Column, Predicate};
+use vx_text::{Shape, are_options, values_of};
 
 /// The arguments of `scan`: the type of the rows, where it is known, and a predicate, where one is given.
 #[derive(Drop)]

@@ -15,7 +15,6 @@ use crate::command::Command;
 use crate::failure::Failure;
 use crate::input::load_script;
 use crate::name::Name;
-use vx_text::{Shape, are_options, optional_number, values_of};
 use crate::printable::Printable;
 use crate::reading::Reading;
 use crate::row_type::RowType;
@@ -25,6 +24,7 @@ use vx_base::{NoCache, Opener, Source};
 use vx_data::VortexSession;
 use vx_file::{Script, ServeOptions, Served};
 use vx_source::LruSegments;
+use vx_text::{Shape, are_options, optional_number, values_of};
 
 /// The arguments of `serve`: the size of the file and the type of its rows, where they are known, how many bytes the
 /// first read is to ask for, whether the metadata is to be loaded, and how segments are read.

@@ -12,12 +12,12 @@ use crate::answer::Answer;
 use crate::command::Command;
 use crate::failure::Failure;
 use crate::name::Name;
-use vx_text::{Shape, are_options, values_of};
 use crate::row_type::RowType;
 use crate::serving::open_name;
 use std::alloc::Global;
 use vx_base::Opener;
 use vx_footer::SizesError;
+use vx_text::{Shape, are_options, values_of};
 
 /// The arguments of `sizes`: the type of the rows, where it is known.
 #[derive(Drop)]

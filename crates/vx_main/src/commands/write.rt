@@ -14,7 +14,6 @@ use crate::answer::Answer;
 use crate::command::Command;
 use crate::failure::Failure;
 use crate::metadata_words::entries;
-use vx_text::{Shape, are_options, optional_number, values_of};
 use crate::rows_file::RowsFile;
 use crate::table::Table;
 use std::alloc::{AllocError, Global};
@@ -22,6 +21,7 @@ use std::marker::Model;
 use vx_base::{ByteBuffer, Source};
 use vx_data::{TextError, VortexSession};
 use vx_footer::FileVersion;
+use vx_text::{Shape, are_options, optional_number, values_of};
 use vx_write::{LayoutStrategy, VortexWriteOptions, WriteStrategyBuilder};
 
 /// Words of which those of metadata spell entries.

@@ -3,9 +3,9 @@ ghost use Rattle.vx_main.specs.Render.{fault_words};
 ghost use Rattle.vx_text.specs.Text.{Adds};
 
 use crate::print::words::put_numbers;
-use vx_text::TextOut;
 use vx_base::Sink;
 use vx_sched::{Fault, Place};
+use vx_text::TextOut;
 
 /// Adds why a read failed, and what it asked.
 pub(crate) fn put_fault<S: Sink>(fault: &Fault, text: &mut TextOut, out: &mut S)

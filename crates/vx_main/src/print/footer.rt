@@ -9,9 +9,9 @@ ghost use Rattle.vx_text.specs.Text.{Adds};
 use crate::print::layout::put_layout;
 use crate::print::statistics::put_statistics;
 use crate::print::words::{put_line, put_numbers, put_quoted};
-use vx_text::TextOut;
 use vx_base::{SegmentSpec, Sink};
 use vx_footer::{Footer, PostscriptMetadata, PostscriptSegment};
+use vx_text::TextOut;
 
 fn put_rows<S: Sink>(footer: &Footer, text: &mut TextOut, out: &mut S)
     ensures { Adds (line (codes "rows") (rows_of footer.now.content.layout ∷ [])) text.old (S.state out.old) text.new (S.state out.new) }

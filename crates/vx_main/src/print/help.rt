@@ -2,8 +2,8 @@
 ghost use Rattle.vx_main.specs.Help.{help_text};
 ghost use Rattle.vx_text.specs.Text.{Adds};
 
-use vx_text::TextOut;
 use vx_base::Sink;
+use vx_text::TextOut;
 
 const WHAT: &[u8] =
     b"vx serves the segments of columnar files, tells how large fields are, skips\nfiles, prints their rows, and writes them.\n\n";

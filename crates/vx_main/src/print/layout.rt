@@ -4,9 +4,9 @@ ghost use Rattle.vx_data.specs.Layout.{layouts_of, kind_of, rows_of, segments_of
 ghost use Rattle.vx_main.specs.Render.{kind_name, layout_line, layout_lines, layouts_lines, numbers_after};
 ghost use Rattle.vx_text.specs.Text.{Adds};
 
-use vx_text::TextOut;
 use vx_base::{SegmentId, Sink};
 use vx_data::{Layout, LayoutKind};
+use vx_text::TextOut;
 
 fn name_of(kind: LayoutKind) -> &'static str
     ensures { result.now ≡ kind_name kind }

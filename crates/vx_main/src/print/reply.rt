@@ -5,11 +5,10 @@ ghost use Rattle.vx_main.specs.Render.{words, line, hex_text, cause_words, outco
 ghost use Rattle.vx_text.specs.Text.{Adds};
 
 use crate::print::fault::put_fault;
-use vx_text::put_hex;
 use crate::print::words::{put_line, put_numbers, put_words};
-use vx_text::TextOut;
 use vx_base::Sink;
 use vx_file::{FailCause, Reply, Span, SpanOutcome};
+use vx_text::{TextOut, put_hex};
 
 fn put_outcome<S: Sink>(outcome: &SpanOutcome, text: &mut TextOut, out: &mut S)
     ensures { Adds (outcome_word outcome.now) text.old (S.state out.old) text.new (S.state out.new) }

@@ -8,13 +8,12 @@ ghost use Rattle.vx_rows.specs.ValueTexts.{optional, bool_text, value_text, fiel
 ghost use Rattle.vx_main.specs.RowsText.{rows_text};
 ghost use Rattle.vx_text.specs.Text.{Adds, Holds};
 
-use vx_text::put_digits;
 use crate::print::words::put_quoted;
 use crate::printable_rows::PrintableRows;
-use vx_text::TextOut;
 use itoa::Buffer;
 use vx_base::Sink;
 use vx_rows::{Column, StructRows};
+use vx_text::{TextOut, put_digits};
 
 /// Adds a truth value, or `~`.
 #[inline(always)]

@@ -4,13 +4,12 @@ ghost use Rattle.vx_main.specs.Render.{read_line, reply_text, value_line, values
 ghost use Rattle.vx_text.specs.Text.{Adds};
 
 use crate::print::footer::put_footer;
-use vx_text::put_hex;
 use crate::print::reply::put_reply;
 use crate::print::words::{put_line, put_quoted};
 use crate::printable::Printable;
-use vx_text::TextOut;
 use vx_base::{Sequence, Sink};
 use vx_file::{MetadataValue, Replies};
+use vx_text::{TextOut, put_hex};
 
 /// Adds the ranges that were asked, a line each.
 pub(crate) fn put_ranges<S: Sink>(ranges: &[(u64, u64)], text: &mut TextOut, out: &mut S)

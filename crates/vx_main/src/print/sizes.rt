@@ -5,10 +5,10 @@ ghost use Rattle.vx_main.specs.SizesText.{part_text, path_text, size_line, sizes
 ghost use Rattle.vx_text.specs.Text.{Adds};
 
 use crate::print::words::put_quoted;
-use vx_text::TextOut;
 use vx_base::Sink;
 use vx_data::FieldPath;
 use vx_footer::CompressedFieldSizes;
+use vx_text::TextOut;
 
 /// Adds the parts of a path.
 fn put_parts<S: Sink>(parts: &[String], text: &mut TextOut, out: &mut S)

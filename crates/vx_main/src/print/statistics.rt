@@ -8,11 +8,11 @@ ghost use Rattle.vx_main.specs.Render.{numbered, precision_mark, stat_words, sta
 ghost use Rattle.vx_text.specs.Text.{Adds};
 
 use crate::print::words::put_quoted;
-use vx_text::TextOut;
 use itoa::Buffer;
 use vx_base::Sink;
 use vx_data::{Precision, Scalar, Stat, StatsSet};
 use vx_footer::FileStatistics;
+use vx_text::TextOut;
 
 fn put_int<S: Sink>(number: i128, text: &mut TextOut, out: &mut S)
     ensures { Adds (signed_decimal number) text.old (S.state out.old) text.new (S.state out.new) }

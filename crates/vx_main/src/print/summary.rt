@@ -7,8 +7,8 @@ ghost use Rattle.vx_text.specs.Text.{Adds};
 use crate::print::served::put_ranges;
 use crate::print::words::put_line;
 use crate::summary::FileSummary;
-use vx_text::TextOut;
 use vx_base::Sink;
+use vx_text::TextOut;
 
 /// Adds what each column takes, a line each.
 fn put_columns<S: Sink>(columns: &[u64], text: &mut TextOut, out: &mut S)

@@ -2,8 +2,8 @@
 ghost use Rattle.vx_main.specs.Outputs.{truth_text};
 ghost use Rattle.vx_text.specs.Text.{Adds};
 
-use vx_text::TextOut;
 use vx_base::Sink;
+use vx_text::TextOut;
 
 /// Adds a truth value as a line.
 pub(crate) fn put_truth<S: Sink>(value: bool, text: &mut TextOut, out: &mut S)

@@ -5,8 +5,8 @@ ghost use Rattle.vx_data.specs.Texts.{quoted, quoted_byte, is_quote_plain, upper
 ghost use Rattle.vx_main.specs.Render.{numbers_after, words, line};
 ghost use Rattle.vx_text.specs.Text.{Adds, Holds};
 
-use vx_text::TextOut;
 use vx_base::Sink;
+use vx_text::TextOut;
 
 /// Adds numbers, each after a space.
 pub(crate) fn put_numbers<S: Sink>(numbers: &[u64], text: &mut TextOut, out: &mut S)
