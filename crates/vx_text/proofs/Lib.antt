@@ -4,3 +4,4 @@ pub mod NumberLemmas
 pub mod OptionLemmas
 pub mod TextLemmas
 pub mod VectorLemmas
+pub mod RoomLemmas

@@ -80,8 +80,7 @@ fn put_vector(bytes: &[u8], text: &mut TextOut)
     ensures holds { Holds (encode_lower bytes.now) text.old text.new }
     ensures long { length text.new.held ≡ length text.old.held + 32 }
 {
-    let digits = digits_of(u8x16::from_slice(bytes));
-    text.put(digits.as_array());
+    text.put_vector(digits_of(u8x16::from_slice(bytes)));
 }
 
 /// Puts the digits of bytes, for which there is room: of as many as fit a vector at a time, and then of each that is left.

@@ -5,6 +5,7 @@ mod digits;
 mod hexadecimal;
 mod numbers;
 mod options;
+mod room;
 mod text;
 
 pub use digits::put_digits;

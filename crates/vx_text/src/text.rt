@@ -4,13 +4,11 @@ ghost use Rattle.std.specs.Fmt.{signed_decimal};
 ghost use Rattle.vx_text.specs.Text.{Adds, Finishes, Holds, new_text};
 
 use crate::digits::put_digits;
-use arrayvec::ArrayVec;
+use crate::room::Room;
 use std::alloc::Global;
 use std::marker::Model;
+use std::simd::prelude::*;
 use vx_base::{Sink, SinkError, write_all, write_flushed};
-
-/// How many bytes the buffer has room for.
-const ROOM: usize = 32_768;
 
 /// For how many bytes there is room behind `make_room`: for a comma, a sign and the digits of 64 bits.
 const SPARE: usize = 32;
@@ -20,7 +18,7 @@ const SPARE: usize = 32;
 #[derive(Drop)]
 pub struct TextOut {
     alloc: Global,
-    held: ArrayVec<u8, ROOM>,
+    held: Room,
     failure: Option<SinkError>,
 }
 
@@ -29,7 +27,7 @@ impl Model for TextOut {
 
     ghost Value = { TextState };
 
-    ghost view = { λ w. record { held = w.held.items; failure = w.failure } };
+    ghost view = { λ w. record { held = w.held; failure = w.failure } };
 }
 
 /// Hands bytes to the sink, unless a write was refused before.
@@ -52,7 +50,7 @@ impl TextOut {
     {
         TextOut {
             alloc,
-            held: ArrayVec::new(),
+            held: Room::new(),
             failure: None,
         }
     }
@@ -86,8 +84,8 @@ impl TextOut {
         ensures { Adds bytes.now self.old (S.state out.old) self.new (S.state out.new) }
     {
         self.send(out);
-        if self.held.try_extend_from_slice(bytes).is_ok() {
-            return;
+        if bytes.len() <= self.held.left() {
+            return self.held.extend(bytes);
         }
         self.pass_behind(out, bytes);
     }
@@ -98,8 +96,8 @@ impl TextOut {
     pub fn word<S: Sink>(&mut self, out: &mut S, bytes: &[u8])
         ensures { Adds bytes.now self.old (S.state out.old) self.new (S.state out.new) }
     {
-        if self.held.try_extend_from_slice(bytes).is_ok() {
-            return;
+        if bytes.len() <= self.held.left() {
+            return self.held.extend(bytes);
         }
         self.send_word(out, bytes);
     }
@@ -110,8 +108,8 @@ impl TextOut {
     pub fn byte<S: Sink>(&mut self, out: &mut S, byte: u8)
         ensures { Adds (byte ∷ []) self.old (S.state out.old) self.new (S.state out.new) }
     {
-        if self.held.try_push(byte).is_ok() {
-            return;
+        if self.held.left() > 0 {
+            return self.held.push(byte);
         }
         self.send_word(out, &[byte]);
     }
@@ -123,7 +121,7 @@ impl TextOut {
         ensures adds { Adds [] self.old (S.state out.old) self.new (S.state out.new) }
         ensures room { length self.new.held + size ≤ 32768 }
     {
-        if self.held.remaining_capacity() >= size {
+        if self.held.left() >= size {
             return;
         }
         self.send(out);
@@ -138,14 +136,14 @@ impl TextOut {
         self.make_room_for(out, SPARE);
     }
 
-    /// Puts bytes, for which there is room.
+    /// Puts the bytes of a vector, for which there is room.
     #[inline(always)]
-    pub(crate) fn put(&mut self, bytes: &[u8])
-        requires { length self.old.held + length bytes.now ≤ 32768 }
-        ensures holds { Holds bytes.now self.old self.new }
-        ensures long { length self.new.held ≡ length self.old.held + length bytes.now }
+    pub(crate) fn put_vector(&mut self, bytes: u8x32)
+        requires { length self.old.held + 32 ≤ 32768 }
+        ensures holds { Holds bytes self.old self.new }
+        ensures long { length self.new.held ≡ length self.old.held + 32 }
     {
-        let _fits = self.held.try_extend_from_slice(bytes);
+        self.held.put_vector(bytes);
     }
 
     /// Puts one byte, for which there is room.
