@@ -1,5 +1,5 @@
 -- Hex text, digit by digit and piece by piece.
-use Rattle.std.proofs.Common.{◌≡◌, ℕ, zero, suc, ◌+◌, ◌-◌, ◌<◌, ◌≤◌, arith, List, [], ◌∷◌, ◌++◌, refl, sym, ap, subst, ◌∙◌, append_assoc}
+use Rattle.std.proofs.Common.{◌≡◌, ℕ, zero, suc, ◌+◌, ◌-◌, ◌*◌, ◌<◌, ◌≤◌, arith, List, [], ◌∷◌, ◌++◌, length, refl, sym, ap, subst, ◌∙◌, append_assoc}
 use Rattle.std.proofs.lemmas.List.{append-nil}
 use Rattle.std.specs.Prelude.{slice_index, ◌/◌, ◌%◌}
 use Rattle.hex.specs.Hex.{encode_with, encode_lower, lower_digits}
@@ -38,10 +38,15 @@ pub ruleset lower_digit_is = (digit_low, digit_high)
 
 -- ---- pieces
 
-encode-append : (t xs ys : List ℕ) → encode_with t (xs ++ ys) ≡ encode_with t xs ++ encode_with t ys
+pub encode-append : (t xs ys : List ℕ) → encode_with t (xs ++ ys) ≡ encode_with t xs ++ encode_with t ys
 unfolding encode_with
 encode-append t [] ys = refl
 encode-append t (x ∷ xs) ys = ap (λ r. slice_index t (x / 16) ∷ slice_index t (x % 16) ∷ r) (encode-append t xs ys)
+
+pub encoded-long : (t xs : List ℕ) → length (encode_with t xs) ≡ 2 * length xs
+unfolding encode_with
+encoded-long t [] = refl
+encoded-long t (x ∷ xs) = ap (λ n. suc (suc n)) (encoded-long t xs) ∙ omega arith
 
 encode-none : (t : List ℕ) → encode_with t [] ≡ []
 unfolding encode_with
@@ -90,6 +95,14 @@ spelled-more bytes piece rest rest' w w1 w2 w3 s s1 s2 split h k l = record {
   front = h.front ++ piece;
   whole = append_assoc h.front piece rest' ∙ ap (λ r. h.front ++ r) (sym split) ∙ h.whole;
   adds = subst (λ b. Adds b w s w3 s2) (sym (encode-append lower_digits h.front piece)) (adds_then h.adds (adds_put k l));
+}
+
+-- the digits of a piece were added behind them
+pub spelled-behind : (bytes piece rest rest' : List ℕ) (w w1 w2 : TextState) (s s1 s2 : SinkState) → rest ≡ piece ++ rest' → Spelled bytes rest w s w1 s1 → Adds (encode_lower piece) w1 s1 w2 s2 → Spelled bytes rest' w s w2 s2
+spelled-behind bytes piece rest rest' w w1 w2 s s1 s2 split h k = record {
+  front = h.front ++ piece;
+  whole = append_assoc h.front piece rest' ∙ ap (λ r. h.front ++ r) (sym split) ∙ h.whole;
+  adds = subst (λ b. Adds b w s w2 s2) (sym (encode-append lower_digits h.front piece)) (adds_then h.adds k);
 }
 
 pub spelled-all : (bytes : List ℕ) (w w1 : TextState) (s s1 : SinkState) → Spelled bytes [] w s w1 s1 → Adds (encode_lower bytes) w s w1 s1

@@ -1,10 +1,11 @@
 -- The digits of sixteen bytes, which are looked up at once.
-use Rattle.std.proofs.Common.{◌≡◌, ℕ, zero, suc, ◌+◌, ◌*◌, ◌/◌, ◌%◌, ◌^◌, ◌<◌, List, [], ◌∷◌, ◌++◌, map, length, get_or, replicate, bit_and, refl, sym, ap, ◌∙◌, arith, w8, Fits}
+use Rattle.std.proofs.Common.{◌≡◌, ℕ, zero, suc, ◌+◌, ◌*◌, ◌/◌, ◌%◌, ◌^◌, ◌<◌, ◌≤◌, List, [], ◌∷◌, ◌++◌, map, length, take, drop, get_or, replicate, bit_and, refl, sym, ap, ◌∙◌, append_assoc, arith, w8, Fits}
 use Rattle.std.proofs.lemmas.List.{get_or-map, length-map, ext_get_or}
 use Rattle.std.proofs.lemmas.Nat.{and_le_r, and_mask}
-use Rattle.std.proofs.lemmas.Simd.{Each1-all, Each1-weaker, Each1-zip2, Each2-splat, below_from_Fits, length-zip2, zip2_splat, swz_l, SwzOk, SwzOk-from_below, length-swz_l, get_or-swz_l_below}
-use lib.Lanes.{zip2, pick_l, Each1}
+use Rattle.std.proofs.lemmas.Simd.{Each1-all, Each1-weaker, Each1-zip2, Each2-splat, below_from_Fits, length-zip2, zip2_splat, length-chunk, chunk-drop, take_more_put_chunk, swz_l, SwzOk, SwzOk-from_below, length-swz_l, get_or-swz_l_below}
+use lib.Lanes.{zip2, pick_l, Each1, chunk, put_chunk}
 use Rattle.hex.specs.Hex.{encode_lower, encode_with, lower_digits}
+use Rattle.vx_text.proofs.HexLemmas.{encode-append, encoded-long}
 
 abbrev pub IsVector : List ℕ → Type 0
 IsVector v = (length v ≡ 16) × Each1 (Fits w8) v
@@ -79,3 +80,25 @@ unfolding encode_with
 paired v high low long above below = rw (above, below) (every-list 16
     (λ v. pick_l 0 (map (λ byte. get_or lower_digits (byte / 16) 0) v ++ map (λ byte. get_or lower_digits (byte % 16) 0) v) pairs ≡ encode_lower v)
     (λ a b c d e f g h i j k l m n o p. refl) v long)
+
+-- ---- the digits so far
+
+-- so many bytes are spelled, and these digits follow those so far
+abbrev pub AreSpelled : List ℕ → List ℕ → ℕ → Type 0
+AreSpelled bytes digits at = take (2 * at) digits ++ encode_lower (drop at bytes) ≡ encode_lower bytes
+
+pub sixteen-more : (bytes digits lanes : List ℕ) (at next place : ℕ) → next ≡ at + 16 → place ≡ 2 * at → next ≤ length bytes → length digits ≡ 2 * length bytes
+    → lanes ≡ encode_lower (chunk at 16 bytes) → AreSpelled bytes digits at → AreSpelled bytes (put_chunk place digits lanes) next
+sixteen-more bytes digits lanes at next place is twice room long lanes_are so_far =
+    let front = length-chunk at 16 bytes (omega (arith, is, room)) in
+    let wide : length lanes ≡ 32 = ap length lanes_are ∙ encoded-long lower_digits (chunk at 16 bytes) ∙ ap (λ n. 2 * n) front in
+    let placed : take (2 * next) (put_chunk place digits lanes) ≡ take place digits ++ lanes =
+    take_more_put_chunk place digits lanes (2 * next) (omega (arith, is, twice, wide)) (omega (arith, room, long)) in
+    let split : encode_lower (drop at bytes) ≡ lanes ++ encode_lower (drop next bytes) =
+    ap encode_lower (chunk-drop at 16 bytes) ∙ encode-append lower_digits (chunk at 16 bytes) (drop (at + 16) bytes)
+    ∙ ap (λ l. l ++ encode_lower (drop (at + 16) bytes)) (sym lanes_are) ∙ ap (λ n. lanes ++ encode_lower (drop n bytes)) (sym is) in
+    ap (λ t. t ++ encode_lower (drop next bytes)) placed
+    ∙ append_assoc (take place digits) lanes (encode_lower (drop next bytes))
+    ∙ ap (λ t. take place digits ++ t) (sym split)
+    ∙ ap (λ n. take n digits ++ encode_lower (drop at bytes)) twice
+    ∙ so_far

@@ -17,6 +17,9 @@ const LANES: usize = 16;
 /// For the digits of at most so many bytes room is made at once.
 const PIECE: usize = 2048;
 
+/// The digits of so many bytes go to the sink by themselves.
+const MANY: usize = 131_072;
+
 /// The lower case digit of a number below 16.
 #[inline(always)]
 #[tactic(auto, using(crate::proofs::HexLemmas::lower_digit_is))]
@@ -113,12 +116,47 @@ fn put_pieces<S: Sink>(bytes: &[u8], text: &mut TextOut, out: &mut S)
     }
 }
 
+/// Spells bytes: as many as fit a vector at a time, and then each that is left.
+fn spell(bytes: &[u8], digits: &mut [u8])
+    requires { length digits.old ≡ 2 * length bytes.now }
+    ensures { digits.new ≡ encode_lower bytes.now }
+{
+    let blocks = bytes.len() / LANES;
+    for block in 0..blocks {
+        let vector = u8x16::from_slice(&bytes[LANES * block..]);
+        digits_of(vector).copy_to_slice(&mut digits[2 * LANES * block..]);
+    }
+    for at in LANES * blocks..bytes.len() {
+        let byte = bytes[at];
+        digits[2 * at] = lower_digit(byte / 16);
+        digits[2 * at + 1] = lower_digit(byte % 16);
+    }
+}
+
+/// Adds the digits of many bytes, which go to the sink without a copy.
+fn put_many<S: Sink>(bytes: &[u8], text: &mut TextOut, out: &mut S)
+    ensures { Adds (encode_lower bytes.now) text.old (S.state out.old) text.new (S.state out.new) }
+{
+    let mut digits = [0u8; 2 * MANY];
+    let mut left = bytes;
+    while left.len() >= MANY {
+        let (piece, behind) = left.split_at(MANY);
+        spell(piece, &mut digits);
+        text.pass_on(out, &digits);
+        left = behind;
+    }
+    put_pieces(left, text, out);
+}
+
 /// Adds bytes as lower case digits, `-` for none.
 pub fn put_hex<S: Sink>(bytes: &[u8], text: &mut TextOut, out: &mut S)
     ensures { Adds (hex_text bytes.now) text.old (S.state out.old) text.new (S.state out.new) }
 {
     if bytes.is_empty() {
         return text.word(out, b"-");
+    }
+    if bytes.len() >= MANY {
+        return put_many(bytes, text, out);
     }
     put_pieces(bytes, text, out);
 }

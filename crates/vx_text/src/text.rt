@@ -90,6 +90,14 @@ impl TextOut {
         self.pass_behind(out, bytes);
     }
 
+    /// Adds many bytes, which go to the sink behind what is held.
+    pub(crate) fn pass_on<S: Sink>(&mut self, out: &mut S, bytes: &[u8])
+        ensures { Adds bytes.now self.old (S.state out.old) self.new (S.state out.new) }
+    {
+        self.send(out);
+        self.pass_behind(out, bytes);
+    }
+
     /// Adds bytes.
     #[inline]
     #[tactic(auto, using(crate::proofs::TextLemmas::adds_held))]
