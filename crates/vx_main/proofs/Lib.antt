@@ -1,10 +1,7 @@
 pub mod Arms
 pub mod DemoArms
 pub mod FileArms
-pub mod FooterText
-pub mod LayoutLines
 pub mod Lines
-pub mod Lists
 pub mod MadeArms
 pub mod MadeSegments
 pub mod Openings
@@ -13,7 +10,6 @@ pub mod NameScans
 pub mod Performing
 pub mod PruneArms
 pub mod ReplyText
-pub mod RowLines
 pub mod RowTypes
 pub mod ScanArms
 pub mod StatusRows
@@ -22,5 +18,4 @@ pub mod Summing
 pub mod TableArms
 pub mod TableLemmas
 pub mod Unopened
-mod QuotedLemmas
 pub mod Reporting

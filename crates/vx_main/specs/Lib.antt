@@ -13,13 +13,11 @@ pub mod Reading
 pub mod Refusals
 pub mod Render
 pub mod RowsFiles
-pub mod RowsText
 pub mod Runs
 pub mod Scans
 pub mod Script
 pub mod Served
 pub mod Sizes
-pub mod SizesText
 pub mod Statuses
 pub mod Streams
 pub mod Summaries

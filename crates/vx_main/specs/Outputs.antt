@@ -31,12 +31,12 @@ use Rattle.vx_main.specs.Reading.{ReadingValue, settings_by, new_cache}
 use Rattle.vx_main.specs.Render.{render_text}
 use Rattle.vx_main.specs.Script.{script_of}
 use Rattle.vx_main.specs.Served.{ServesFile, GaveBack, GivesBack}
-use Rattle.vx_main.specs.SizesText.{sizes_text}
+use Rattle.vx_print.specs.SizesText.{sizes_text}
 use Rattle.vx_main.specs.Summaries.{SumsUp}
 use Rattle.vx_main.specs.SummaryText.{summary_text}
 use Rattle.vx_main.specs.declared.summary.FileSummary.{FileSummary}
 use Rattle.vx_main.specs.RowsFiles.{bytes_of, refusal_of, RowsOpen}
-use Rattle.vx_main.specs.RowsText.{rows_text}
+use Rattle.vx_print.specs.RowsText.{rows_text}
 use Rattle.vx_main.specs.Scans.{Spells, ScansFile, spelled, opened_status}
 use Rattle.vx_main.specs.Tables.{TableValue, table_of, ReadsTable}
 use Rattle.vx_main.specs.WriteWords.{WriteValue}

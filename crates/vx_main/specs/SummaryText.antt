@@ -2,7 +2,8 @@
 use Rattle.std.specs.Prelude.{ℕ, List, [], ◌∷◌, ◌++◌, codes}
 use Rattle.std.specs.List.{flat_map}
 use Rattle.vx_main.specs.declared.summary.FileSummary.{FileSummary}
-use Rattle.vx_main.specs.Render.{line, numbered, read_line}
+use Rattle.vx_print.specs.Lines.{line, numbered}
+use Rattle.vx_main.specs.Render.{read_line}
 
 -- a column and how many bytes it takes
 abbrev pub column_line : ℕ → ℕ → List ℕ

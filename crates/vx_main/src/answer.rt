@@ -7,18 +7,16 @@ ghost use Rattle.vx_text.specs.Text.{Adds, Writes};
 
 use crate::failure::Failure;
 use crate::print::help::put_help;
-use crate::print::rows::put_rows;
 use crate::print::served::put_served;
-use crate::print::sizes::put_sizes;
 use crate::print::summary::put_summary;
 use crate::print::truth::put_truth;
 use crate::printable::Printable;
-use crate::printable_rows::PrintableRows;
 use crate::rows_file::RowsFile;
 use crate::summary::FileSummary;
 use std::alloc::Global;
 use vx_base::{Sink, SinkError};
 use vx_footer::CompressedFieldSizes;
+use vx_print::{PrintableRows, put_rows, put_sizes};
 use vx_text::TextOut;
 
 const VERSION: &[u8] = b"vx 0.1.0\n";

@@ -14,7 +14,6 @@ mod metadata_words;
 mod name;
 mod print;
 mod printable;
-mod printable_rows;
 mod reading;
 mod refusal;
 mod row_type;

@@ -16,11 +16,11 @@ use crate::command::Command;
 use crate::failure::Failure;
 use crate::filter::Filter;
 use crate::name::Name;
-use crate::printable_rows::PrintableRows;
 use crate::row_type::RowType;
 use crate::scanning::scan_name;
 use std::alloc::{AllocError, Global};
 use vx_base::Opener;
+use vx_print::PrintableRows;
 use vx_rows::{Column, Predicate};
 use vx_text::{Shape, are_options, values_of};
 

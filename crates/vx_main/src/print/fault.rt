@@ -2,8 +2,8 @@
 ghost use Rattle.vx_main.specs.Render.{fault_words};
 ghost use Rattle.vx_text.specs.Text.{Adds};
 
-use crate::print::words::put_numbers;
 use vx_base::Sink;
+use vx_print::put_numbers;
 use vx_sched::{Fault, Place};
 use vx_text::TextOut;
 

@@ -1,13 +1,14 @@
 //! The lines of replies.
 ghost use Rattle.std.specs.Prelude.{◌∷◌, [], ◌++◌, length, codes};
 ghost use Rattle.std.specs.List.{flat_map};
-ghost use Rattle.vx_main.specs.Render.{words, line, hex_text, cause_words, outcome_word, span_line, held_word, reply_text};
+ghost use Rattle.vx_print.specs.Lines.{words, line};
+ghost use Rattle.vx_main.specs.Render.{hex_text, cause_words, outcome_word, span_line, held_word, reply_text};
 ghost use Rattle.vx_text.specs.Text.{Adds};
 
 use crate::print::fault::put_fault;
-use crate::print::words::{put_line, put_numbers, put_words};
 use vx_base::Sink;
 use vx_file::{FailCause, Reply, Span, SpanOutcome};
+use vx_print::{put_line, put_numbers, put_words};
 use vx_text::{TextOut, put_hex};
 
 fn put_outcome<S: Sink>(outcome: &SpanOutcome, text: &mut TextOut, out: &mut S)

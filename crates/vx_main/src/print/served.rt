@@ -3,12 +3,11 @@ ghost use Rattle.std.specs.List.{flat_map};
 ghost use Rattle.vx_main.specs.Render.{read_line, reply_text, value_line, values_text, render_text};
 ghost use Rattle.vx_text.specs.Text.{Adds};
 
-use crate::print::footer::put_footer;
 use crate::print::reply::put_reply;
-use crate::print::words::{put_line, put_quoted};
 use crate::printable::Printable;
 use vx_base::{Sequence, Sink};
 use vx_file::{MetadataValue, Replies};
+use vx_print::{put_footer, put_line, put_quoted};
 use vx_text::{TextOut, put_hex};
 
 /// Adds the ranges that were asked, a line each.

@@ -1,13 +1,13 @@
 //! What is told of a file.
 ghost use Rattle.std.specs.Prelude.{◌∷◌, [], codes};
-ghost use Rattle.vx_main.specs.Render.{line, numbered};
+ghost use Rattle.vx_print.specs.Lines.{line, numbered};
 ghost use Rattle.vx_main.specs.SummaryText.{column_line, summary_text};
 ghost use Rattle.vx_text.specs.Text.{Adds};
 
 use crate::print::served::put_ranges;
-use crate::print::words::put_line;
 use crate::summary::FileSummary;
 use vx_base::Sink;
+use vx_print::put_line;
 use vx_text::TextOut;
 
 /// Adds what each column takes, a line each.

@@ -1,7 +1,8 @@
 use Rattle.std.proofs.Common.{◌∙◌, ap}
 use Rattle.std.specs.List.{flat_map}
-use Rattle.vx_main.specs.Render.{footer_text, values_text, read_line, reply_text}
-use Rattle.vx_main.proofs.FooterText.{adds-same}
+use Rattle.vx_print.specs.FooterText.{footer_text}
+use Rattle.vx_main.specs.Render.{values_text, read_line, reply_text}
+use Rattle.vx_print.proofs.FooterText.{adds-same}
 use Rattle.vx_text.proofs.TextLemmas.{adds_then}
 use Rattle.vx_main.proofs.print.served.put_served.Goals as goal
 

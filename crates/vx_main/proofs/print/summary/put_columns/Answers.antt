@@ -2,7 +2,7 @@ use Rattle.std.proofs.Common.{◌<◌, length, subst, rules}
 use Rattle.std.specs.Prelude.{slice_index}
 use Rattle.vx_main.specs.SummaryText.{column_line}
 use Rattle.vx_text.specs.Text.{Adds}
-use Rattle.vx_main.proofs.Lists.{got-index, numbered-take}
+use Rattle.vx_print.proofs.Lists.{got-index, numbered-take}
 use Rattle.vx_text.proofs.TextLemmas.{adds_then}
 use Rattle.vx_main.proofs.print.summary.put_columns.Goals as goal
 

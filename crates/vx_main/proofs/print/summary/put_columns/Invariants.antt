@@ -1,5 +1,5 @@
 use Rattle.std.proofs.Common.{take}
-use Rattle.vx_main.specs.Render.{numbered}
+use Rattle.vx_print.specs.Lines.{numbered}
 use Rattle.vx_main.specs.SummaryText.{column_line}
 use Rattle.vx_text.specs.Text.{Adds}
 use Rattle.vx_main.proofs.print.summary.put_columns.Given as goal

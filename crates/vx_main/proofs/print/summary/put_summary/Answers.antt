@@ -1,6 +1,7 @@
 use Rattle.std.proofs.Common.{subst}
 use Rattle.std.specs.List.{flat_map}
-use Rattle.vx_main.specs.Render.{numbered, read_line}
+use Rattle.vx_print.specs.Lines.{numbered}
+use Rattle.vx_main.specs.Render.{read_line}
 use Rattle.vx_main.specs.SummaryText.{column_line}
 use Rattle.vx_text.specs.Text.{Adds}
 use Rattle.vx_text.proofs.TextLemmas.{adds_then}

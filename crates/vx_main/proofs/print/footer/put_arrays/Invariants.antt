@@ -1,9 +1,0 @@
-use Rattle.std.proofs.Common.{take, map}
-use Rattle.std.specs.Prelude.{string_bytes}
-use Rattle.vx_main.specs.Render.{numbered, array_line}
-use Rattle.vx_text.specs.Text.{Adds}
-use Rattle.vx_main.proofs.print.footer.put_arrays.Given as goal
-
--- what stands in front was added
-abbrev pub invariant-loop-i : goal.invariant-loop-i
-invariant-loop-i g l = Adds (numbered array_line 0 (take l.i (map string_bytes l.ids))) l.fn.text (g.S.Sink.state l.fn.out) l.text (g.S.Sink.state l.out)

@@ -1,5 +1,0 @@
-use Rattle.vx_main.proofs.QuotedLemmas.{plain_at}
-use Rattle.vx_main.proofs.print.words.is_plain.Goals as goal
-
-pub returns : goal.returns
-returns c = plain_at c.args.byte c.ranges.byte.fits

@@ -1,0 +1,4 @@
+pub mod FooterText
+pub mod Lines
+pub mod RowsText
+pub mod SizesText
