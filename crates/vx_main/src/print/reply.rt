@@ -2,7 +2,8 @@
 ghost use Rattle.std.specs.Prelude.{◌∷◌, [], ◌++◌, length, codes};
 ghost use Rattle.std.specs.List.{flat_map};
 ghost use Rattle.vx_print.specs.Lines.{words, line};
-ghost use Rattle.vx_main.specs.Render.{hex_text, cause_words, outcome_word, span_line, held_word, reply_text};
+ghost use Rattle.vx_main.specs.Render.{cause_words, outcome_word, span_line, held_word, reply_text};
+ghost use Rattle.vx_text.specs.Hexadecimal.{hex_text};
 ghost use Rattle.vx_text.specs.Text.{Adds};
 
 use crate::print::fault::put_fault;
