@@ -133,7 +133,9 @@ fn spell(bytes: &[u8], digits: &mut [u8])
     }
 }
 
-/// Adds the digits of many bytes, which go to the sink without a copy.
+/// Adds the digits of many bytes, which go to the sink without a copy. It stands apart, so that the room for its digits is
+/// not laid out for few bytes too.
+#[inline(never)]
 fn put_many<S: Sink>(bytes: &[u8], text: &mut TextOut, out: &mut S)
     ensures { Adds (encode_lower bytes.now) text.old (S.state out.old) text.new (S.state out.new) }
 {
