@@ -21,7 +21,8 @@ pub mod CallLemmas
 pub mod PlaceLemmas
 pub mod LaterLemmas
 pub mod TakenLemmas
+pub mod ToldLemmas
 pub mod TreeLemmas
-pub mod PollLemmas
+pub mod BitSetLemmas
 pub mod AnswerLemmas
 pub mod NumberedLemmas

@@ -12,7 +12,7 @@ use Rattle.std.specs.Ordering.{nat_cmp, match_ordering}
 use Rattle.std.specs.declared.cmp.Ordering.{Ordering}
 use Rattle.std.specs.declared.cmp.Ordering.TheVariants.{Less, Equal, Greater}
 use Rattle.vx_sched.specs.Numbered.{held, with_value, is_full, RiseFrom, IsGap, IsSlot}
-use Rattle.vx_sched.specs.Polls.{word_at, or_zero, IsUp}
+use Rattle.vx_sched.specs.BitSet.{word_at, or_zero, IsUp}
 use Rattle.vx_sched.specs.declared.numbered.Slot.{Slot}
 
 -- each number is at or above the first

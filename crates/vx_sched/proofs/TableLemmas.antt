@@ -1,20 +1,19 @@
 -- A table of reads and places, after a change.
 use Rattle.std.proofs.Common.{◌≡◌, ℕ, ◌+◌, length, drop, get_or, drop-cons, add-one, ◌≤◌, ◌%◌, ◌||◌, List, [], ◌∷◌, ◌++◌, map, max, ◌-◌, ◌<◌, ◌^◌, ◌==◌, ◌&&◌, not, Bool, true, false, cond, Option, Some, None, option_map, option_to_list, if◌then◌else◌, is_some, IfSome, IfNone, refl, ap, sym, ◌∙◌, arith, subst, unwrap_or, rules}
 use Rattle.std.proofs.lemmas.Bool.Decides.{nat_tests}
-use Rattle.std.proofs.lemmas.Nat.Bits.{bit_at-zero}
 use Rattle.std.specs.List.{list_any, filter, AllByRecursion}
 use Rattle.vx_sched.specs.Merging.{is_listed}
-use Rattle.std.specs.BTreeMap.{is_at}
+use Rattle.std.specs.BTreeMap.{insert_entry, is_at}
 use Rattle.std.specs.Ordering.{nat_cmp}
 use Rattle.vx_sched.specs.Span.{end_of}
 use Rattle.std.specs.List.Sorted.{IsStrictlySortedBy, IsNonDecreasingBy}
 use Rattle.std.proofs.lemmas.List.Sorted.{IsNonDecreasingBy-short}
 use Rattle.std.specs.Map.{keys_of}
 use Rattle.std.proofs.lemmas.Map.Keys.{sorted_from_strictly_increasing}
-use Rattle.vx_sched.specs.Entries.{Entries, entry_at, waiting_among, if_waits, waits_in, polled_in, after}
-use Rattle.vx_sched.proofs.EntriesLemmas.{waiting_in, if_polls, polled_entry}
+use Rattle.vx_sched.specs.Entries.{Entries, entry_at, waiting_among, if_waits, waits_in, after, change_found, changed}
+use Rattle.vx_sched.proofs.EntriesLemmas.{waiting_in, if_polls, polled_entry, change_entry, changed-at, sorted-changed, lookup-put}
 use Rattle.vx_sched.specs.Reads.{Known, Reads, read_at, waiting_at, polled_at, if_waiting, if_polled, is_waiting, is_polled}
-use Rattle.vx_sched.specs.Polls.{Words, has_room, is_raised, polls_in, stays_polled, AreMarked}
+use Rattle.vx_sched.specs.Told.{polls_in}
 use Rattle.vx_sched.specs.declared.read.ReadState.{ReadState}
 use Rattle.vx_sched.specs.declared.read.ReadState.TheVariants as state
 use Rattle.vx_sched.specs.Kept.{Has, HaveAll, Names, IsKept, IsTable}
@@ -286,57 +285,9 @@ among-wait reads places longest (n ∷ ids) k = at (among-wait reads places long
         let id = waiting-id reads places longest k n x f in
         (subst (λ m. waiting_in reads m ≡ Some x) (sym id) f, rest)
 
--- the bits stay those of the reads where a read changes its stage or goes
-pub marked-changed : (reads reads' : Entries) (words words' : Words) (id : ℕ) (r : ReadRequest) (stage : Option Stage) → AreMarked reads words → is_some (entry_at reads id) ≡ true
-    → ((q : ℕ) → entry_at reads' q ≡ cond (is_at (nat_cmp id) q) (option_map (λ s. record { request = r; stage = s }) stage) (entry_at reads q))
-    → ((n : ℕ) → is_raised words' n ≡ cond (id == n) (stays_polled stage) (is_raised words n)) → ((n : ℕ) → has_room words n ≡ true → has_room words' n ≡ true) → AreMarked reads' words'
-marked-changed reads reads' words words' id r stage marked there lookups put kept = record {
-  raised = λ n. put n ∙ at n (id == n) refl stage ∙ sym (ap polls_in (lookups n));
-  room = λ n h. kept n (room n (id == n) refl (sym (ap is_some (lookups n)) ∙ h));
-}
-  where
-    at : (n : ℕ) (b : Bool) → (id == n) ≡ b → (o : Option Stage) → cond (id == n) (stays_polled o) (is_raised words n)
-        ≡ polls_in (cond (is_at (nat_cmp id) n) (option_map (λ s. record { request = r; stage = s }) o) (entry_at reads n))
-    at n true e None = ap (λ t. cond t false (is_raised words n)) e ∙ sym (ap (λ t. polls_in (cond t None (entry_at reads n))) (at-eq id n ∙ e))
-    at n true e (Some s) = ap (λ t. cond t (polled_in s) (is_raised words n)) e ∙ sym (ap (λ t. polls_in (cond t (Some (record { request = r; stage = s })) (entry_at reads n))) (at-eq id n ∙ e))
-    at n false e o = ap (λ t. cond t (stays_polled o) (is_raised words n)) e ∙ marked.raised n
-        ∙ sym (ap (λ t. polls_in (cond t (option_map (λ s. record { request = r; stage = s }) o) (entry_at reads n))) (at-eq id n ∙ e))
-
-    room : (n : ℕ) (b : Bool) → (id == n) ≡ b → is_some (cond (is_at (nat_cmp id) n) (option_map (λ s. record { request = r; stage = s }) stage) (entry_at reads n)) ≡ true → has_room words n ≡ true
-    room n true e h =
-        let same : id ≡ n = grind (arith, nat_tests) in
-        marked.room n (subst (λ m. is_some (entry_at reads m) ≡ true) same there)
-    room n false e h = marked.room n (sym (ap (λ t. is_some (cond t (option_map (λ s. record { request = r; stage = s }) stage) (entry_at reads n))) (at-eq id n ∙ e)) ∙ h)
-
--- and where room is made for a bit
-pub marked-kept : (reads : Entries) (words words' : Words) → AreMarked reads words → ((n : ℕ) → is_raised words' n ≡ is_raised words n) → ((n : ℕ) → has_room words n ≡ true → has_room words' n ≡ true) → AreMarked reads words'
-marked-kept reads words words' marked same kept = record {
-  raised = λ n. same n ∙ marked.raised n;
-  room = λ n h. kept n (marked.room n h);
-}
-
--- and where a read is added that has a bit
-pub marked-added : (reads reads' : Entries) (words : Words) (r : ReadRequest) → AreMarked reads words → entry_at reads r.id ≡ None → has_room words r.id ≡ true
-    → ((q : ℕ) → entry_at reads' q ≡ cond (is_at (nat_cmp r.id) q) (Some (record { request = r; stage = Registered })) (entry_at reads q)) → AreMarked reads' words
-marked-added reads reads' words r marked fresh there lookups = record {
-  raised = λ n. raised n (is_at (nat_cmp r.id) n) refl ∙ sym (ap polls_in (lookups n));
-  room = λ n h. room n (is_at (nat_cmp r.id) n) refl (sym (ap is_some (lookups n)) ∙ h);
-}
-  where
-    here : (n : ℕ) → is_at (nat_cmp r.id) n ≡ true → r.id ≡ n
-    here n e = grind (arith, nat_tests)
-
-    raised : (n : ℕ) (b : Bool) → is_at (nat_cmp r.id) n ≡ b → is_raised words n ≡ polls_in (cond (is_at (nat_cmp r.id) n) (Some (record { request = r; stage = Registered })) (entry_at reads n))
-    raised n true e = subst (λ m. is_raised words m ≡ false) (here n e) (marked.raised r.id ∙ ap polls_in fresh) ∙ sym (ap (λ t. polls_in (cond t (Some (record { request = r; stage = Registered })) (entry_at reads n))) e)
-    raised n false e = marked.raised n ∙ sym (ap (λ t. polls_in (cond t (Some (record { request = r; stage = Registered })) (entry_at reads n))) e)
-
-    room : (n : ℕ) (b : Bool) → is_at (nat_cmp r.id) n ≡ b → is_some (cond (is_at (nat_cmp r.id) n) (Some (record { request = r; stage = Registered })) (entry_at reads n)) ≡ true → has_room words n ≡ true
-    room n true e h = subst (λ m. has_room words m ≡ true) (here n e) there
-    room n false e h = marked.room n (sym (ap (λ t. is_some (cond t (Some (record { request = r; stage = Registered })) (entry_at reads n))) e) ∙ h)
-
--- the bit that is set is that of a polled read
-pub raised-polled : (reads : Entries) (words : Words) → AreMarked reads words → (q : ℕ) → is_raised words q ≡ polled_entry reads q
-raised-polled reads words marked q = marked.raised q ∙ at (entry_at reads q)
+-- a read that polls was polled
+pub polls-polled : (reads : Entries) (q : ℕ) → polls_in (entry_at reads q) ≡ polled_entry reads q
+polls-polled reads q = at (entry_at reads q)
   where
     at : (x : Option Read) → polls_in x ≡ if_polls x
     at None = refl
@@ -375,8 +326,8 @@ found-some P reads id h None e = absurd (polled-waits reads id h (sym e))
 found-some P reads id h (Some r) e = tt
 
 -- a table without reads
-pub empty_table : (entries : Entries) (places : Places) (words : Words) → entries ≡ [] → places.sorted.items ≡ [] → words ≡ [] → IsTable entries places 0 words
-empty_table entries places words e p w = subst (λ (es : Entries). IsTable es places 0 words) (sym e) (subst (λ (ws : Words). IsTable [] places 0 ws) (sym w) (record {
+pub empty_table : (entries : Entries) (places : Places) → entries ≡ [] → places.sorted.items ≡ [] → IsTable entries places 0
+empty_table entries places e p = subst (λ (es : Entries). IsTable es places 0) (sym e) (record {
   kept = record {
     placed = λ offset id h. cc;
     rise = subst (IsNonDecreasingBy offset_of) (sym p) (IsNonDecreasingBy-short offset_of [] (omega arith));
@@ -387,5 +338,30 @@ empty_table entries places words e p w = subst (λ (es : Entries). IsTable es pl
     fits = λ id x h. cc;
   };
   grouped = record { named = λ n h. cc; sizes = λ id n size h. cc };
-  marked = record { raised = λ n. ap (λ b. b == 1) (bit_at-zero (n % 64)); room = λ n h. cc };
-}))
+})
+
+-- a table after a change of the read of a number
+pub kept-changed : (c : Change) (reads reads' : Entries) (places places' : Places) (longest id : ℕ) → IsKept reads places longest → reads' ≡ changed c reads id → HaveAll places places' → IsKept reads' places' longest
+kept-changed c reads reads' places places' longest id k e all = at (entry_at reads id) refl
+  where
+    at : (x : Option Read) → entry_at reads id ≡ x → IsKept reads' places' longest
+    at None h = same-table reads reads' places places' longest k (e ∙ ap (change_found c reads id) h) all
+    at (Some x) h =
+        let key : x.request.id ≡ id = k.keyed id x h in
+        changed-table reads reads' places places' longest x (after c x.stage) k (subst (λ (es : Entries). IsStrictlySortedBy nat_cmp (keys_of es)) (sym e) (sorted-changed c reads id k.sorted))
+        (subst (λ n. entry_at reads n ≡ Some x) (sym key) h) (after-waits c x.stage)
+        (λ q. ap (λ (es : Entries). entry_at es q) e ∙ changed-at c reads id q k.sorted ∙ looked q (id == q) refl ∙ sym (ap (λ b. cond b (change_entry c (Some x)) (entry_at reads q)) (ap (λ n. is_at (nat_cmp n) q) key ∙ at-eq id q)))
+        all
+      where
+        looked : (q : ℕ) (b : Bool) → (id == q) ≡ b → cond b (change_entry c (entry_at reads q)) (entry_at reads q) ≡ cond (id == q) (change_entry c (Some x)) (entry_at reads q)
+        looked q true f =
+            let same : id ≡ q = grind (arith, nat_tests) in
+            ap (change_entry c) (sym (ap (entry_at reads) same) ∙ h) ∙ sym (ap (λ b. cond b (change_entry c (Some x)) (entry_at reads q)) f)
+        looked q false f = sym (ap (λ b. cond b (change_entry c (Some x)) (entry_at reads q)) f)
+
+-- the look-ups after a read was added
+pub added-lookups : (reads reads' : Entries) (r : ReadRequest) → reads' ≡ insert_entry nat_cmp reads r.id (record { request = r; stage = Registered })
+    → (q : ℕ) → entry_at reads' q ≡ cond (is_at (nat_cmp r.id) q) (Some (record { request = r; stage = Registered })) (entry_at reads q)
+added-lookups reads reads' r e q =
+    ap (λ (es : Entries). entry_at es q) e ∙ lookup-put reads r.id q (record { request = r; stage = Registered })
+    ∙ ap (λ b. cond b (Some (record { request = r; stage = Registered })) (entry_at reads q)) (sym (at-eq r.id q))

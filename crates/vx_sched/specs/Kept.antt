@@ -6,7 +6,6 @@ use Rattle.std.specs.Map.{keys_of}
 use Rattle.std.specs.Ordering.{nat_cmp}
 use Rattle.vx_sched.specs.Entries.{Entries, entry_at}
 use Rattle.vx_sched.specs.Places.{offset_of, has_place, waits_at, AreGrouped}
-use Rattle.vx_sched.specs.Polls.{Words, AreMarked}
 use Rattle.vx_sched.specs.Span.{end_of}
 use Rattle.vx_sched.specs.Stored.{Read}
 use Rattle.vx_sched.specs.declared.places.Places.{Places}
@@ -35,8 +34,7 @@ pub record IsKept (entries : Entries) (places : Places) (longest : ℕ) : Type 0
   pub long : (id : ℕ) (x : Read) → entry_at entries id ≡ Some x → x.request.length ≤ longest
   pub fits : (id : ℕ) (x : Read) → entry_at entries id ≡ Some x → end_of x.request < 2 ^ 64
 
--- entries with their places, spans and bits
-pub record IsTable (entries : Entries) (places : Places) (longest : ℕ) (words : Words) : Type 0 where
+-- entries with their places and spans
+pub record IsTable (entries : Entries) (places : Places) (longest : ℕ) : Type 0 where
   pub kept : IsKept entries places longest
   pub grouped : AreGrouped entries
-  pub marked : AreMarked entries words

@@ -13,8 +13,9 @@ pub mod Metrics
 pub mod Outcomes
 pub mod Picks
 pub mod Places
-pub mod Polls
+pub mod BitSet
 pub mod Reads
 pub mod Scheduling
 pub mod Span
 pub mod Stored
+pub mod Told

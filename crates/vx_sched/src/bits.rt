@@ -12,6 +12,15 @@ pub fn with_bit(word: u64, place: u64, is_set: bool) -> u64
     if is_set { word | bit } else { word & !bit }
 }
 
+/// Whether the bit at a place is set.
+#[inline(always)]
+pub fn is_set(word: u64, place: u64) -> bool
+    requires { place < 64 }
+    ensures { result ≡ (bit_at word place == 1) }
+{
+    (word >> place) % 2 == 1
+}
+
 /// The least place from one on whose bit is set.
 pub fn first_bit(word: u64, from: u64) -> Option<u64>
     requires { from < 64 }

@@ -1,8 +1,7 @@
 //! How many reads a scheduler has in each state.
 ghost use Rattle.std.specs.Prelude.{◌≡◌};
-ghost use Rattle.vx_sched.specs.Counting.{slot_is, is_of, count_of};
+ghost use Rattle.vx_sched.specs.Counting.{slot_is, is_of};
 
-use crate::numbered::{Numbered, Slot};
 use crate::read::{Read, Stage};
 
 /// How many reads are registered, polled, in flight and resolved, and how many ranges are in flight.
@@ -46,26 +45,12 @@ fn is_kind(kind: Kind, id: u64, stage: &Stage) -> bool
     }
 }
 
-/// Whether a slot holds a read of a kind.
-fn is_slot_kind(kind: Kind, slot: &Slot<Read>) -> bool
-    ensures { result ≡ slot_is kind slot.now.value }
+/// Whether there is a read, and it is of a kind.
+pub fn is_read_kind(kind: Kind, found: &Option<Read>) -> bool
+    ensures { result ≡ slot_is kind found.now }
 {
-    match slot.value {
+    match found {
         Some(read) => is_kind(kind, read.request().id, &read.stage()),
         None => false,
     }
-}
-
-/// How many reads are of a kind.
-pub fn count_kind(reads: &Numbered<Read>, kind: Kind) -> usize
-    ensures { result ≡ count_of kind reads.now }
-{
-    let mut count = 0;
-    let slots = reads.slots();
-    for slot in slots {
-        if is_slot_kind(kind, slot) {
-            count += 1;
-        }
-    }
-    count
 }

@@ -8,8 +8,8 @@ ghost use Rattle.vx_sched.specs.Flying.{same_read, flies_in, flies_so};
 
 use crate::ReadRequest;
 use crate::gather::comes_before;
-use crate::numbered::Numbered;
 use crate::read::{Read, Stage};
+use crate::read_map::ReadMap;
 use std::ops::Range;
 
 /// Whether reads are listed once each, in order.
@@ -79,7 +79,7 @@ fn flies(span: u64, size: usize, request: &ReadRequest, found: Option<Read>) -> 
 }
 
 /// Whether reads are in flight in a span.
-pub fn all_fly(reads: &Numbered<Read>, span: u64, size: usize, spans: &[ReadRequest]) -> bool
+pub fn all_fly(reads: &ReadMap, span: u64, size: usize, spans: &[ReadRequest]) -> bool
     ensures { result ≡ list_all (λ r. flies_so span size r (entry_at reads.now r.id)) spans.now }
 {
     for read in spans {

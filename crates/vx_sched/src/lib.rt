@@ -4,6 +4,7 @@
 
 mod asking;
 mod batching;
+mod bit_set;
 mod bits;
 mod counts;
 mod event;
@@ -15,8 +16,8 @@ mod law;
 mod metrics;
 mod numbered;
 mod places;
-mod polls;
 mod read;
+mod read_map;
 mod request;
 mod span;
 mod state;

@@ -8,10 +8,9 @@ ghost use Rattle.std.specs.List.{list_any};
 ghost use Rattle.std.specs.List.Sorted.{IsNonDecreasingBy};
 ghost use Rattle.vx_sched.specs.Entries.{entry_at};
 ghost use Rattle.vx_sched.specs.Kept.{Has, HaveAll, IsKept, Names};
-ghost use Rattle.vx_sched.specs.Places.{offset_of, has_place, waits_at, if_waiting};
+ghost use Rattle.vx_sched.specs.Places.{offset_of, has_place, waits_at};
 
-use crate::numbered::Numbered;
-use crate::read::Read;
+use crate::read_map::ReadMap;
 use std::alloc::{AllocError, Global};
 use std::collections::{BTreeSet, btree_set};
 use std::mem;
@@ -58,22 +57,12 @@ fn numbers_in(
     Ok(ids)
 }
 
-/// Whether the read of a number waits.
-fn is_waiting(reads: &Numbered<Read>, id: u64) -> bool
-    ensures { result ≡ if_waiting (entry_at reads.now id) }
-{
-    match reads.get(id) {
-        Some(read) => read.stage().is_waiting(),
-        None => false,
-    }
-}
-
 /// Takes the places of reads that wait no longer out.
-fn clear(places: &mut Vec<(u64, u64)>, reads: &Numbered<Read>)
+fn clear(places: &mut Vec<(u64, u64)>, reads: &ReadMap)
     ensures { (offset id : ℕ) → waits_at offset (entry_at reads.now id) ≡ true → has_place places.old.items (offset, id) ≡ true →
         has_place places.new.items (offset, id) ≡ true }
 {
-    places.retain(|place| is_waiting(reads, place.1));
+    places.retain(|place| reads.is_waiting(place.1));
 }
 
 /// Puts new places in the order of their offsets.
@@ -253,7 +242,7 @@ impl Places {
     }
 
     /// Puts the places in order. Only memory refuses.
-    pub fn arrange(&mut self, reads: &Numbered<Read>) -> Result<(), AllocError>
+    pub fn arrange(&mut self, reads: &ReadMap) -> Result<(), AllocError>
         ensures { (longest : ℕ) → IsKept reads.now self.old longest → IsKept reads.now self.new longest }
     {
         if self.left > 64 + self.sorted.len() / 2 {

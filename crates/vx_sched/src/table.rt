@@ -16,25 +16,24 @@ ghost use Rattle.vx_sched.specs.Picks.{is_among};
 ghost use Rattle.vx_sched.specs.Places.{AllFit, offset_of};
 ghost use Rattle.vx_sched.specs.Counting.{counts_of};
 ghost use Rattle.vx_sched.specs.Scheduling.{NonePolled, IsSomePolled};
-ghost use Rattle.vx_sched.specs.Polls.{has_room, is_raised, stays_polled, AreMarked};
+ghost use Rattle.vx_sched.specs.Told.{polls_in};
+ghost use Rattle.vx_sched.specs.declared.read.Stage.TheVariants as Stage;
 
 use crate::ReadRequest;
-use crate::counts::{Counts, Kind, count_kind};
+use crate::counts::{Counts, Kind};
 use crate::flying::{all_fly, is_ordered};
-use crate::numbered::Numbered;
 use crate::places::Places;
-use crate::polls::Polls;
-use crate::read::{Change, Read, ReadState, Stage, stage_after};
+use crate::read::{Change, Read, ReadState};
+use crate::read_map::ReadMap;
 use crate::taken::Taken;
 use std::alloc::{AllocError, Global};
 use std::marker::Model;
 
-/// The reads by number, the places of those that wait, and which of them are polled.
+/// The reads by number, and the places of those that wait.
 #[derive(Drop)]
 pub struct Table {
-    reads: Numbered<Read>,
+    reads: ReadMap,
     places: Places,
-    polls: Polls,
     /// No read is longer than this.
     longest: u64,
 }
@@ -48,73 +47,35 @@ impl Model for Table {
 
     ghost view = { λ t. seen t.reads };
 
-    ghost invariant = { λ t. IsTable t.reads t.places t.longest t.polls };
+    ghost invariant = { λ t. IsTable t.reads t.places t.longest };
 }
 
 /// Adds a read and its place. Without memory the reads are as before.
-fn add(
-    reads: &mut Numbered<Read>,
-    places: &mut Places,
-    request: ReadRequest,
-) -> Result<(), AllocError>
+fn add(reads: &mut ReadMap, places: &mut Places, request: ReadRequest) -> Result<(), AllocError>
+    requires { entry_at reads.old request.id ≡ None }
     ensures entries { OnOk result (reads.new ≡ insert_entry nat_cmp reads.old request.id
         (record { request = request; stage = Stage.Registered })) }
-    ensures lookups { OnOk result ((q : ℕ) → entry_at reads.new q
-        ≡ cond (is_at (nat_cmp request.id) q) (Some (record { request = request; stage = Stage.Registered }))
-        (entry_at reads.old q)) }
     ensures place { OnOk result (Has places.new (request.offset, request.id)) }
     ensures places { HaveAll places.old places.new }
     ensures kept { OnErr result (reads.new ≡ reads.old) }
 {
-    let id = request.id;
-    places.insert((request.offset, id))?;
-    reads.put(id, Read::new(request, Stage::Registered))?;
+    places.insert((request.offset, request.id))?;
+    reads.add(request)?;
     Ok(())
 }
 
-/// Puts the read of a number, which is there, in another stage, or takes it out.
-#[inline(always)]
-fn put(reads: &mut Numbered<Read>, id: u64, request: ReadRequest, stage: Option<Stage>)
-    requires { IsSome (entry_at reads.old id) }
-    ensures entries { reads.new ≡ with_stage reads.old id request stage }
-    ensures lookups { (q : ℕ) → entry_at reads.new q ≡ cond (is_at (nat_cmp id) q)
-        (option_map (λ s. record { request = request; stage = s }) stage) (entry_at reads.old q) }
-{
-    match stage {
-        Some(stage) => match reads.put(id, Read::new(request, stage)) {
-            Ok(()) => {}
-            Err(_) => unreachable!(),
-        },
-        None => reads.remove(id),
-    }
-}
-
-/// Says of a read that changed whether it left its place.
-#[inline(always)]
-fn leave(places: &mut Places, before: &Stage, after: Option<Stage>)
-    ensures { HaveAll places.old places.new }
-{
-    let stays = match after {
-        Some(stage) => stage.is_waiting(),
-        None => false,
-    };
-    if before.is_waiting() && !stays {
-        places.leave();
-    }
-}
-
-/// The raised number from one on that is least and not among some.
-fn next_of(polls: &Polls, from: u64, taken: &Taken) -> Option<u64>
-    ensures raised { IfSome result (λ n. is_raised polls.now n ≡ true) }
+/// The polled number from one on that is least and not among some.
+fn next_of(reads: &ReadMap, from: u64, taken: &Taken) -> Option<u64>
+    ensures polled { IfSome result (λ n. polls_in (entry_at reads.now n) ≡ true) }
     ensures fresh { IfSome result (λ n. is_among taken.now n ≡ false) }
-    ensures least { IfSome result (λ n. (q : ℕ) → from ≤ q → q < n → is_raised polls.now q ≡ true →
+    ensures least { IfSome result (λ n. (q : ℕ) → from ≤ q → q < n → polls_in (entry_at reads.now q) ≡ true →
         is_among taken.now q ≡ true) }
-    ensures none { IfNone result ((q : ℕ) → from ≤ q → q < 2 ^ 64 → is_raised polls.now q ≡ true →
+    ensures none { IfNone result ((q : ℕ) → from ≤ q → q < 2 ^ 64 → polls_in (entry_at reads.now q) ≡ true →
         is_among taken.now q ≡ true) }
 {
     let mut at = from;
     loop {
-        let Some(number) = polls.next(at) else {
+        let Some(number) = reads.next_polled(at) else {
             return None;
         };
         if !taken.contains(number) {
@@ -127,59 +88,18 @@ fn next_of(polls: &Polls, from: u64, taken: &Taken) -> Option<u64>
     }
 }
 
-/// Says of a read that changed whether it is polled.
-#[inline(always)]
-fn mark(polls: &mut Polls, id: u64, before: &Stage, after: Option<Stage>)
-    requires raised { is_raised polls.old id ≡ polled_in before.now }
-    requires room { has_room polls.old id ≡ true }
-    ensures raised { (n : ℕ) → is_raised polls.new n ≡ cond (id == n) (stays_polled after) (is_raised polls.old n) }
-    ensures room { (n : ℕ) → has_room polls.old n ≡ true → has_room polls.new n ≡ true }
-{
-    let is_polled = match after {
-        Some(stage) => stage.is_polled(),
-        None => false,
-    };
-    if is_polled != before.is_polled() {
-        polls.put(id, is_polled);
-    }
-}
-
-/// The entry of a number.
-#[inline(always)]
-fn entry(reads: &Numbered<Read>, id: u64) -> Option<Read>
-    ensures { result ≡ entry_at reads.now id }
-{
-    reads.get(id)
-}
-
-/// The request of an entry that waits.
-fn if_waits(found: Option<Read>) -> Option<ReadRequest>
-    ensures { result ≡ if_waits found }
-{
-    match found {
-        Some(read) => {
-            if read.stage().is_waiting() {
-                Some(read.request())
-            } else {
-                None
-            }
-        }
-        None => None,
-    }
-}
-
 /// Those of the reads of numbers that wait. Nothing else is done as they are looked up, so that the processor
 /// fetches several at once.
 fn waiting_among(
     alloc: Global,
-    reads: &Numbered<Read>,
+    reads: &ReadMap,
     ids: &[u64],
 ) -> Result<Vec<ReadRequest>, AllocError>
     ensures { IfOk result (λ v. v.items ≡ waiting_among reads.now ids.now) }
 {
     let mut found = Vec::with_capacity(alloc, ids.len())?;
     for id in ids {
-        let Some(request) = if_waits(entry(reads, *id)) else {
+        let Some(request) = reads.waiting(*id) else {
             continue;
         };
         found.push(request)?;
@@ -191,7 +111,7 @@ fn waiting_among(
 /// kept. Only memory refuses.
 fn numbers_near(
     alloc: Global,
-    reads: &Numbered<Read>,
+    reads: &ReadMap,
     places: &Places,
     left: u64,
     right: u64,
@@ -220,42 +140,22 @@ fn if_state(found: Option<Read>) -> Option<ReadState>
 
 /// Changes the read of a number, if there is one.
 #[inline(always)]
-fn change_entry(
-    reads: &mut Numbered<Read>,
-    places: &mut Places,
-    polls: &mut Polls,
-    id: u64,
-    change: Change,
-)
-    requires { AreMarked reads.old polls.old }
+fn change_entry(reads: &mut ReadMap, places: &mut Places, id: u64, change: Change)
     ensures changed { reads.new ≡ changed change reads.old id }
     ensures kept { (longest : ℕ) → IsKept reads.old places.old longest → IsKept reads.new places.new longest }
-    ensures marked { AreMarked reads.new polls.new }
 {
-    if let Some(read) = entry(reads, id) {
-        let before = read.stage();
-        let stage = stage_after(change, before);
-        put(reads, id, read.request(), stage);
-        leave(places, &before, stage);
-        mark(polls, id, &before, stage);
+    if reads.change(change, id) {
+        places.leave();
     }
 }
 
 /// Changes several reads.
-fn change_entries(
-    reads: &mut Numbered<Read>,
-    places: &mut Places,
-    polls: &mut Polls,
-    change: Change,
-    span: &[ReadRequest],
-)
-    requires { AreMarked reads.old polls.old }
+fn change_entries(reads: &mut ReadMap, places: &mut Places, change: Change, span: &[ReadRequest])
     ensures changed { reads.new ≡ all_changed change reads.old span.now }
     ensures kept { (longest : ℕ) → IsKept reads.old places.old longest → IsKept reads.new places.new longest }
-    ensures marked { AreMarked reads.new polls.new }
 {
     for read in span {
-        change_entry(reads, places, polls, read.id, change);
+        change_entry(reads, places, read.id, change);
     }
 }
 
@@ -275,9 +175,8 @@ impl Table {
         ensures { result ≡ [] }
     {
         Table {
-            reads: Numbered::new(alloc),
+            reads: ReadMap::new(alloc),
             places: Places::new(alloc, keeps_places),
-            polls: Polls::new(alloc),
             longest: 0,
         }
     }
@@ -286,11 +185,10 @@ impl Table {
     pub fn with_room(alloc: Global, keeps_places: bool, count: usize) -> Result<Table, AllocError>
         ensures { IfOk result (λ table. table ≡ []) }
     {
-        let reads = Numbered::with_room(alloc, count)?;
+        let reads = ReadMap::with_room(alloc, count)?;
         Ok(Table {
             reads,
             places: Places::new(alloc, keeps_places),
-            polls: Polls::new(alloc),
             longest: 0,
         })
     }
@@ -299,7 +197,7 @@ impl Table {
     pub fn state(&self, id: u64) -> Option<ReadState>
         ensures { result ≡ state_at self.now id }
     {
-        let found = entry(&self.reads, id);
+        let found = self.reads.get(id);
         if_state(found)
     }
 
@@ -308,8 +206,7 @@ impl Table {
         ensures value { result ≡ waiting_at self.now id }
         ensures keyed { IfSome result (λ r. (r.id ≡ id) × (end_of r < 2 ^ 64)) }
     {
-        let found = entry(&self.reads, id);
-        if_waits(found)
+        self.reads.waiting(id)
     }
 
     /// Whether a read is polled.
@@ -317,7 +214,7 @@ impl Table {
         ensures some { result ≡ true → IsSomePolled self.now }
         ensures none { result ≡ false → NonePolled self.now }
     {
-        match self.polls.next(0) {
+        match self.reads.next_polled(0) {
             Some(_number) => true,
             None => false,
         }
@@ -334,7 +231,7 @@ impl Table {
         ensures none { IfNone result ((q : ℕ) → from ≤ q → polled_at self.now q ≡ true →
             is_among taken.now q ≡ true) }
     {
-        match next_of(&self.polls, from, taken) {
+        match next_of(&self.reads, from, taken) {
             Some(id) => self.waiting(id),
             None => None,
         }
@@ -368,11 +265,11 @@ impl Table {
         ensures { result ≡ counts_of self.now }
     {
         Counts {
-            registered: count_kind(&self.reads, Kind::IsRegistered),
-            polled: count_kind(&self.reads, Kind::IsPolled),
-            in_flight: count_kind(&self.reads, Kind::IsFlying),
-            resolved: count_kind(&self.reads, Kind::IsResolved),
-            ranges: count_kind(&self.reads, Kind::Leads),
+            registered: self.reads.count(Kind::IsRegistered),
+            polled: self.reads.count(Kind::IsPolled),
+            in_flight: self.reads.count(Kind::IsFlying),
+            resolved: self.reads.count(Kind::IsResolved),
+            ranges: self.reads.count(Kind::Leads),
         }
     }
 
@@ -383,9 +280,7 @@ impl Table {
         ensures registered { OnOk result (self.new ≡ self.old ++ register_read request ∷ []) }
         ensures kept { OnErr result (self.new ≡ self.old) }
     {
-        let id = request.id;
         let longest = self.longest.max(request.length as u64);
-        self.polls.open(id)?;
         add(&mut self.reads, &mut self.places, request)?;
         self.longest = longest;
         Ok(())
@@ -403,26 +298,14 @@ impl Table {
     pub fn poll(&mut self, id: u64)
         ensures { self.new ≡ change (λ n. n == id) poll_read self.old }
     {
-        change_entry(
-            &mut self.reads,
-            &mut self.places,
-            &mut self.polls,
-            id,
-            Change::Poll,
-        );
+        change_entry(&mut self.reads, &mut self.places, id, Change::Poll);
     }
 
     /// Takes the read of a number out, or marks it where it is in flight.
     pub fn cancel(&mut self, id: u64)
         ensures { self.new ≡ change (λ n. n == id) drop_read self.old }
     {
-        change_entry(
-            &mut self.reads,
-            &mut self.places,
-            &mut self.polls,
-            id,
-            Change::Cancel,
-        );
+        change_entry(&mut self.reads, &mut self.places, id, Change::Cancel);
     }
 
     /// Puts waiting reads in flight in one span.
@@ -436,13 +319,7 @@ impl Table {
             span: number_of(span),
             size: span.len(),
         };
-        change_entries(
-            &mut self.reads,
-            &mut self.places,
-            &mut self.polls,
-            change,
-            span,
-        );
+        change_entries(&mut self.reads, &mut self.places, change, span);
     }
 
     /// Resolves the reads of a span in flight; those that were dropped are gone.
@@ -451,13 +328,7 @@ impl Table {
         requires flies { leads_at self.old (first_number span.now) ≡ span.now }
         ensures { self.new ≡ change (is_listed span.now) resolve_read self.old }
     {
-        change_entries(
-            &mut self.reads,
-            &mut self.places,
-            &mut self.polls,
-            Change::Resolve,
-            span,
-        );
+        change_entries(&mut self.reads, &mut self.places, Change::Resolve, span);
     }
 
     /// Takes waiting reads in one span and resolves them.
@@ -465,13 +336,7 @@ impl Table {
         requires { AllByRecursion (λ r. waiting_at self.old r.id ≡ Some r) span.now }
         ensures { self.new ≡ change (is_listed span.now) resolve_read (change (is_listed span.now) (take_read span.now) self.old) }
     {
-        change_entries(
-            &mut self.reads,
-            &mut self.places,
-            &mut self.polls,
-            Change::Settle,
-            span,
-        );
+        change_entries(&mut self.reads, &mut self.places, Change::Settle, span);
     }
 
     /// Whether reads are those of a span in flight.

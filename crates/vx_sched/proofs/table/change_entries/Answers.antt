@@ -6,5 +6,4 @@ pub loop-read-preserved : goal.loop-read-preserved
 loop-read-preserved c = (
   grind (arith, common_steps),
   λ longest k. c.change_entry.ensures.kept longest (c.loop-read.invariant.1 longest k),
-  c.change_entry.ensures.marked,
 )

@@ -14,7 +14,6 @@ invariant_of-self c =
     record {
       kept = kept;
       grouped = subst AreGrouped (sym c.change_entry.ensures.changed) (simple-grouped Cancel drop_read drop-simple c.self.inside.reads c.args.id stands new c.self.invariant.grouped);
-      marked = c.change_entry.ensures.marked;
     }
 
 pub returns : goal.returns

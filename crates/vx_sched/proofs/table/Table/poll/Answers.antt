@@ -14,7 +14,6 @@ invariant_of-self c =
     record {
       kept = kept;
       grouped = subst AreGrouped (sym c.change_entry.ensures.changed) (simple-grouped Poll poll_read poll-simple c.self.inside.reads c.args.id stands new c.self.invariant.grouped);
-      marked = c.change_entry.ensures.marked;
     }
 
 pub returns : goal.returns

@@ -16,7 +16,6 @@ invariant_of-self c =
     record {
       kept = kept;
       grouped = subst AreGrouped (sym c.change_entries.ensures.changed) (resolve-grouped c.self.inside.reads c.args.span.now stands new c.self.invariant.grouped c.requires.some leads);
-      marked = c.change_entries.ensures.marked;
     }
 
 pub returns : goal.returns

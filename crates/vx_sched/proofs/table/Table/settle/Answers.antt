@@ -12,7 +12,6 @@ invariant_of-self c =
     record {
       kept = kept;
       grouped = settle-grouped c.self.inside.reads c.change_entries.new.reads c.args.span.now stands new c.change_entries.ensures.changed c.self.invariant.grouped;
-      marked = c.change_entries.ensures.marked;
     }
 
 pub returns : goal.returns

@@ -18,7 +18,6 @@ invariant_of-self c =
     record {
       kept = kept;
       grouped = subst AreGrouped (sym changed) (take-grouped c.self.inside.reads c.args.span.now stands new c.self.invariant.grouped c.requires.some c.requires.order waits);
-      marked = c.change_entries.ensures.marked;
     }
 
 pub returns : goal.returns

@@ -2,4 +2,4 @@ use Rattle.vx_sched.proofs.TableLemmas.{empty_table}
 use Rattle.vx_sched.proofs.table.Table.with_room.Goals as goal
 
 pub invariant_of-result : goal.invariant_of-result
-invariant_of-result c = empty_table c.in_ok-reads.reads c.new.result c.new-2.result c.in_ok-reads.ensures c.new.ensures.sorted c.new-2.ensures
+invariant_of-result c = empty_table c.in_ok-reads.reads c.new.result c.in_ok-reads.ensures c.new.ensures.sorted

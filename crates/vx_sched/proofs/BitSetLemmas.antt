@@ -5,7 +5,7 @@ use Rattle.std.proofs.lemmas.Bool.{cases_lt}
 use Rattle.std.proofs.lemmas.Nat.Bits.{bit_at-zero}
 use Rattle.std.proofs.Math.Logic.{⊎_elim}
 use Rattle.std.specs.Int.{bit_at}
-use Rattle.vx_sched.specs.Polls.{Words, word_at, has_word, is_raised, Covers}
+use Rattle.vx_sched.specs.BitSet.{Words, word_at, has_word, is_raised, Covers}
 
 -- a word without bits raises none
 pub low : (words : Words) (q : ℕ) → word_at words (q / 64) ≡ 0 → is_raised words q ≡ false

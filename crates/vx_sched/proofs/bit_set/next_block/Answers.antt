@@ -1,7 +1,7 @@
 use Rattle.std.proofs.Common.{◌≡◌, ℕ, ◌≤◌, ◌*◌, ◌/◌, ◌%◌, Option, Some, None, IfNone, subst, arith}
-use Rattle.vx_sched.specs.Polls.{word_at}
-use Rattle.vx_sched.proofs.PollLemmas.{block-start}
-use Rattle.vx_sched.proofs.polls.next_block.Goals as goal
+use Rattle.vx_sched.specs.BitSet.{word_at}
+use Rattle.vx_sched.proofs.BitSetLemmas.{block-start}
+use Rattle.vx_sched.proofs.bit_set.next_block.Goals as goal
 
 pub returns-clause-none : goal.returns-clause-none
 returns-clause-none c = at c.first_in_block-2.result c.first_in_block-2.ensures.empty

@@ -1,24 +1,24 @@
-//! Which numbers of reads are polled.
+//! A set of numbers of reads.
 //!
 //! A word has a bit for each of 64 numbers, and a word of groups one for each of 64 words, which says whether a bit
-//! of that is set. So the least polled number is found past few words, and marking one takes no memory.
+//! of that is set. So the least number from one on is found past few words, and putting one in or out takes no memory.
 ghost use Rattle.std.specs.Prelude.{◌≡◌, ℕ, ◌/◌, ◌%◌, ◌<◌, ◌≤◌, ◌==◌, ◌^◌, [], cond, true, false, IfSome, IfNone, OnOk};
-ghost use Rattle.vx_sched.specs.Polls.{word_at, has_word, has_room, is_raised, IsUp, Covers};
+ghost use Rattle.vx_sched.specs.BitSet.{word_at, has_word, has_room, is_raised, IsUp, Covers};
 
-use crate::bits::{first_bit, with_bit};
+use crate::bits::{first_bit, is_set, with_bit};
 use crate::numbered::{Numbered, Slot, place_of};
 use std::alloc::{AllocError, Global};
 use std::marker::Model;
 
 /// Words of bits of numbers, and over them words of bits of words.
 #[derive(Drop)]
-pub struct Polls {
+pub struct BitSet {
     words: Numbered<u64>,
     groups: Numbered<u64>,
 }
 
-impl Model for Polls {
-    ghost use Rattle.vx_sched.specs.Polls.{Words, Covers};
+impl Model for BitSet {
+    ghost use Rattle.vx_sched.specs.BitSet.{Words, Covers};
 
     ghost Value = { Words };
 
@@ -130,11 +130,11 @@ fn next_block(words: &Numbered<u64>, groups: &Numbered<u64>, from: u64) -> Optio
     first_in_block(groups, group * 64)
 }
 
-impl Polls {
-    pub fn new(alloc: Global) -> Polls
+impl BitSet {
+    pub fn new(alloc: Global) -> BitSet
         ensures { result ≡ [] }
     {
-        Polls {
+        BitSet {
             words: Numbered::new(alloc),
             groups: Numbered::new(alloc),
         }
@@ -152,24 +152,32 @@ impl Polls {
         Ok(())
     }
 
-    /// Says whether a number is polled.
+    /// Whether a number is in the set.
     #[inline(always)]
-    pub fn put(&mut self, number: u64, is_polled: bool)
+    pub fn has(&self, number: u64) -> bool
+        ensures { result ≡ is_raised self.now number }
+    {
+        is_set(word_of(&self.words, number / 64), number % 64)
+    }
+
+    /// Puts a number into the set, or takes it out.
+    #[inline(always)]
+    pub fn put(&mut self, number: u64, is_in: bool)
         requires { has_room self.old number ≡ true }
-        ensures bits { (n : ℕ) → is_raised self.new n ≡ cond (number == n) is_polled (is_raised self.old n) }
+        ensures bits { (n : ℕ) → is_raised self.new n ≡ cond (number == n) is_in (is_raised self.old n) }
         ensures kept { (n : ℕ) → has_room self.old n ≡ true → has_room self.new n ≡ true }
     {
         let block = number / 64;
         let before = word_of(&self.words, block);
-        let after = set_bit(&mut self.words, number, before, is_polled);
-        let has_polled = after != 0;
-        if has_polled != (before != 0) {
+        let after = set_bit(&mut self.words, number, before, is_in);
+        let has_some = after != 0;
+        if has_some != (before != 0) {
             let group = word_of(&self.groups, block / 64);
-            set_bit(&mut self.groups, block, group, has_polled);
+            set_bit(&mut self.groups, block, group, has_some);
         }
     }
 
-    /// The least polled number from one on.
+    /// The least number from one on.
     pub fn next(&self, from: u64) -> Option<u64>
         ensures raised { IfSome result (λ n. is_raised self.now n ≡ true) }
         ensures after { IfSome result (λ n. from ≤ n) }

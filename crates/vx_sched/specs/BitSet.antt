@@ -4,9 +4,6 @@ use Rattle.std.specs.Int.{bit_at}
 use Rattle.std.specs.Map.{lookup}
 use Rattle.std.specs.BTreeMap.{is_at}
 use Rattle.std.specs.Ordering.{nat_cmp}
-use Rattle.vx_sched.specs.Entries.{Entries, entry_at, polled_in}
-use Rattle.vx_sched.specs.Stored.{Read}
-use Rattle.vx_sched.specs.declared.read.Stage.{Stage}
 
 -- words by block, in order
 abbrev pub Words : Type 0
@@ -41,17 +38,3 @@ pub record Covers (words groups : Words) : Type 0 where
   pub tied : (b : ℕ) → is_raised groups b ≡ nat_lt 0 (word_at words b)
   pub small : (b : ℕ) → has_word words b ≡ true → b < 2 ^ 58
   pub few : (b : ℕ) → has_word groups b ≡ true → b < 2 ^ 58
-
--- whether a read, if there is one, is polled
-abbrev pub polls_in : Option Read → Bool
-polls_in None = false
-polls_in (Some x) = polled_in x.stage
-
-abbrev pub stays_polled : Option Stage → Bool
-stays_polled None = false
-stays_polled (Some stage) = polled_in stage
-
--- each read has a bit, which says whether it is polled, and no other bit is set
-pub record AreMarked (entries : Entries) (words : Words) : Type 0 where
-  pub raised : (n : ℕ) → is_raised words n ≡ polls_in (entry_at entries n)
-  pub room : (n : ℕ) → is_some (entry_at entries n) ≡ true → has_room words n ≡ true

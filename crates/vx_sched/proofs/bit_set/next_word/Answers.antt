@@ -1,8 +1,8 @@
 use Rattle.std.proofs.Common.{◌≡◌, ◌<◌, get_or, subst}
 use Rattle.std.proofs.lemmas.Option.{slice_get-get_or}
-use Rattle.vx_sched.specs.Polls.{Words, word_at}
+use Rattle.vx_sched.specs.BitSet.{Words, word_at}
 use Rattle.vx_sched.proofs.NumberedLemmas.{skipped_before, skipped_all, skipped_more, skipped_start, raised_here, blank}
-use Rattle.vx_sched.proofs.polls.next_word.Goals as goal
+use Rattle.vx_sched.proofs.bit_set.next_word.Goals as goal
 
 pub loop-at-init : goal.loop-at-init
 loop-at-init c = skipped_start c.slots-slots.result.now c.args.from c.place_of-at.result c.place_of-at.ensures.below

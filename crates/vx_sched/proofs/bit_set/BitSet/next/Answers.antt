@@ -1,7 +1,7 @@
 use Rattle.std.proofs.Common.{◌≡◌, ℕ, ◌<◌, ◌≤◌, ◌*◌, ◌/◌, ◌%◌, false, Option, Some, None, IfSome, IfNone, subst, arith}
-use Rattle.vx_sched.specs.Polls.{Words, word_at, is_raised}
-use Rattle.vx_sched.proofs.PollLemmas.{block-start, rest-least, low}
-use Rattle.vx_sched.proofs.polls.Polls.next.Goals as goal
+use Rattle.vx_sched.specs.BitSet.{Words, word_at, is_raised}
+use Rattle.vx_sched.proofs.BitSetLemmas.{block-start, rest-least, low}
+use Rattle.vx_sched.proofs.bit_set.BitSet.next.Goals as goal
 
 pub returns-clause-least : goal.returns-clause-least
 returns-clause-least c = at c.first_in_block-2.result c.first_in_block-2.ensures.least
