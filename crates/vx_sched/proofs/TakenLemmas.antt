@@ -1,8 +1,9 @@
 -- The numbers that are among others.
-use Rattle.std.proofs.Common.{◌≡◌, ℕ, suc, zero, ◌+◌, ◌<◌, ◌≤◌, ◌==◌, ◌||◌, Bool, true, false, List, [], ◌∷◌, length, get_or, refl, ap, sym, ◌∙◌, ⊎_elim, arith}
+use Rattle.std.proofs.Common.{◌≡◌, ℕ, suc, zero, ◌+◌, ◌-◌, ◌<◌, ◌≤◌, ◌==◌, ◌++◌, ◌||◌, Bool, true, false, List, [], ◌∷◌, length, get_or, nat_lt, refl, ap, sym, ◌∙◌, ⊎_elim, arith}
 use Rattle.std.proofs.lemmas.Bool.{cases_lt}
 use Rattle.std.proofs.lemmas.Bool.Decides.{nat_tests}
-use Rattle.std.proofs.lemmas.List.Sorted.{searched}
+use Rattle.std.proofs.lemmas.List.{get_or_default}
+use Rattle.std.proofs.lemmas.List.Sorted.{searched, IsNonDecreasingBy-push}
 use Rattle.std.specs.List.{list_any}
 use Rattle.std.specs.List.Sorted.{IsNonDecreasing, IsBinarySearchResult}
 use Rattle.std.specs.BTreeMap.{is_at}
@@ -43,3 +44,26 @@ keys-among [] x = refl
 keys-among (y ∷ xs) x =
     let same : is_at (nat_cmp x) y ≡ (y == x) = grind (arith, nat_tests) in
     ap (λ b. b || list_any (is_at (nat_cmp x)) xs) same ∙ ap (λ b. (y == x) || b) (keys-among xs x)
+
+-- a number above the last of those in order is not among them, and may stand behind them
+module _ (xs : List ℕ) (x : ℕ) (rise : IsNonDecreasing xs) (some : length xs ≡ 0 → ⊥) (above : nat_lt (get_or xs (length xs - 1) 0) x ≡ true) where
+  long : 0 < length xs
+  long = at (length xs) some
+    where
+      at : (n : ℕ) → (n ≡ 0 → ⊥) → 0 < n
+      at zero h = absurd (h refl)
+      at (suc n) h = omega arith
+
+  less : get_or xs (length xs - 1) 0 < x
+  less = grind (arith, nat_tests)
+
+  pub above-absent : is_among xs x ≡ false
+  above-absent = among-none xs x (λ i l.
+      let before : get_or xs i 0 ≤ get_or xs (length xs - 1) 0 = rise i (length xs - 1) 0 (omega (arith, l)) (omega (arith, long)) in
+      let under : get_or xs i 0 < x = omega (arith, before, less) in
+      grind (arith, nat_tests))
+
+  pub above-rise : IsNonDecreasing (xs ++ x ∷ [])
+  above-rise = IsNonDecreasingBy-push (λ (n : ℕ). n) xs x rise (λ d l.
+      let last : get_or xs (length xs - 1) d ≡ get_or xs (length xs - 1) 0 = get_or_default xs (length xs - 1) d 0 (omega (arith, l)) in
+      omega (arith, last, less))

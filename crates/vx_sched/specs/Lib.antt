@@ -16,6 +16,7 @@ pub mod Places
 pub mod BitSet
 pub mod Reads
 pub mod Scheduling
+pub mod Sieve
 pub mod Span
 pub mod Stored
 pub mod Told

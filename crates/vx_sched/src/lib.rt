@@ -19,6 +19,7 @@ mod places;
 mod read;
 mod read_map;
 mod request;
+mod sieve;
 mod span;
 mod state;
 mod table;
