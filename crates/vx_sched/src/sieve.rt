@@ -2,11 +2,10 @@
 //!
 //! A number's bit is one of 65,536, and it is set once a number with that bit was marked. A sieve takes no memory before
 //! it is opened, and lets all numbers through until then.
-ghost use Rattle.std.specs.Prelude.{◌≡◌, ℕ, ◌<◌, ◌==◌, true, false, IfOk};
-ghost use Rattle.std.specs.Int.{bit_at};
+ghost use Rattle.std.specs.Prelude.{◌≡◌, ℕ, true, false, IfOk};
 ghost use Rattle.vx_sched.specs.Sieve.{may_hold, HoldsOn};
 
-use crate::bits::with_bit;
+use crate::bits::{is_set, with_bit};
 use std::alloc::{AllocError, Global};
 use std::marker::Model;
 
@@ -25,15 +24,6 @@ impl Model for Sieve {
     ghost Value = { List ℕ };
 
     ghost view = { λ s. s.words.items };
-}
-
-/// Whether a bit of a word is set.
-#[inline(always)]
-fn has_bit(word: u64, place: u64) -> bool
-    requires { place < 64 }
-    ensures { result ≡ (bit_at word place == 1) }
-{
-    (word >> place) & 1 == 1
 }
 
 impl Sieve {
@@ -72,7 +62,7 @@ impl Sieve {
         if at >= self.words.len() {
             return true;
         }
-        has_bit(self.words[at], number % 64)
+        is_set(self.words[at], number % 64)
     }
 
     /// Marks a number, where the sieve is open.
