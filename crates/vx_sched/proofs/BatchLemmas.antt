@@ -1,10 +1,9 @@
 -- The spans of a batch.
-use Rattle.std.proofs.Common.{◌≡◌, ℕ, ◌<◌, ◌≤◌, ◌||◌, max, Bool, true, false, cond, List, [], ◌∷◌, ◌++◌, Option, Some, None, refl, ap, sym, ◌∙◌, subst, arith, append_assoc}
+use Rattle.std.proofs.Common.{◌≡◌, ℕ, ◌+◌, ◌<◌, ◌≤◌, ◌||◌, max, Bool, true, false, cond, List, [], ◌∷◌, ◌++◌, Option, Some, None, refl, ap, sym, ◌∙◌, subst, arith, append_assoc}
 use Rattle.std.proofs.lemmas.Bool.{cases_lt}
 use Rattle.std.proofs.lemmas.List.{append-nil}
 use Rattle.std.proofs.Math.Logic.{⊎_elim}
-use Rattle.std.specs.List.{AllByRecursion, list_any}
-use Rattle.std.specs.BTreeMap.{is_at}
+use Rattle.std.specs.List.{AllByRecursion}
 use Rattle.vx_sched.specs.Span.{Span, end_of, AllWithin}
 use Rattle.vx_sched.specs.Reads.{Known, read_at, waiting_at, polled_at, if_waiting, if_polled, is_waiting, is_polled}
 use Rattle.vx_sched.specs.Merging.{Merges, GathersIn, is_listed, is_in_order, is_in_order_after, is_before, first_offset, greatest_end}
@@ -149,19 +148,27 @@ module _ (s : Scheduler) (spans : List Span) (before : List ℕ) (from : ℕ) (f
     }
 
     -- with one more span
-    pub so_far-step : SoFar s (spans ++ span ∷ []) before' first.id
-    so_far-step = record {
+    pub so_far-step : (from' : ℕ) → from' ≤ first.id + 1 → SoFar s (spans ++ span ∷ []) before' from'
+    so_far-step from' near = record {
       sound = f.sound;
       sound_now = subst IsSound (sym (all_taken-push s spans span)) (sound-taken (all_taken s spans) span f.sound_now merges-now);
       turn = λ rest h. rw append_assoc (f.turn (span ∷ rest) (merges-now, subst (λ t. MergesInTurn t rest) (all_taken-push s spans span) h));
       others = λ q h. others q (or-false (is_among before q) (is_listed span.reads q) (sym (numbers q) ∙ h));
       gone = λ q h. gone q (is_listed span.reads q) refl (is_among before q) refl (sym (numbers q) ∙ h);
-      past = λ q l p. numbers q ∙ or-true (is_among before q) (is_listed span.reads q) (sooner q l p);
+      past = λ q l p. numbers q ∙ ⊎_elim (λ (b : q < first.id). or-true (is_among before q) (is_listed span.reads q) (sooner q b p))
+          (λ (g : first.id ≤ q). served q (omega (arith, l, near, g))) (cases_lt q first.id);
       distance = ap (λ (t : Scheduler). t.distance) (all_taken-push s spans span) ∙ f.distance;
       limit = ap (λ (t : Scheduler). t.limit) (all_taken-push s spans span) ∙ f.limit;
       alignment = ap (λ (t : Scheduler). t.alignment) (all_taken-push s spans span) ∙ f.alignment;
     }
       where
+        served : (q : ℕ) → first.id ≡ q → (is_among before q || is_listed span.reads q) ≡ true
+        served q same = or-second (is_among before q) (is_listed span.reads q) (subst (λ n. is_listed span.reads n ≡ true) same merges.serves)
+          where
+            or-second : (a b : Bool) → b ≡ true → (a || b) ≡ true
+            or-second true b h = refl
+            or-second false b h = h
+
         others : (q : ℕ) → (is_among before q ≡ false) × (is_listed span.reads q ≡ false) → read_at (all_taken s (spans ++ span ∷ [])).reads q ≡ read_at s.reads q
         others q h = ap (λ (t : Scheduler). read_at t.reads q) (all_taken-push s spans span)
             ∙ read-taken (all_taken s spans) f.sound_now span q h.1 ∙ f.others q h.0

@@ -1,10 +1,9 @@
 -- Spans that are taken and resolved at once, over the entries and in turn.
-use Rattle.std.proofs.Common.{◌≡◌, ℕ, ◌+◌, ◌<◌, ◌≤◌, ◌==◌, Bool, true, false, cond, List, [], ◌∷◌, length, Option, Some, None, option_map, refl, ap, sym, ◌∙◌, subst, arith}
+use Rattle.std.proofs.Common.{◌≡◌, ℕ, ◌<◌, Bool, true, false, cond, List, [], ◌∷◌, length, Option, Some, None, option_map, refl, ap, sym, ◌∙◌, subst, arith}
 use Rattle.std.specs.Prelude.{is_some}
-use Rattle.std.proofs.lemmas.Bool.Decides.{nat_tests}
 use Rattle.vx_sched.specs.Span.{Span}
 use Rattle.vx_sched.specs.Merging.{is_listed}
-use Rattle.vx_sched.specs.Reads.{Known, Reads, read_at, waiting_at, polled_at, flying_at, has_first, ranges_in_flight, change, take_read, resolve_read}
+use Rattle.vx_sched.specs.Reads.{Known, Reads, read_at, waiting_at, polled_at, has_first, ranges_in_flight, change, take_read, resolve_read}
 use Rattle.vx_sched.specs.Entries.{Entries, entry_at, if_waits, group, known, seen, all_changed}
 use Rattle.vx_sched.specs.Places.{AreGrouped, size_in}
 use Rattle.vx_sched.specs.Scheduling.{Scheduler, SameSettings, MayTake, MergesNow, MergesInTurn, IsInFlight, taken, all_taken, resolved, all_resolved, settled}

@@ -1,7 +1,7 @@
 -- A table of reads and places, after a change.
-use Rattle.std.proofs.Common.{◌≡◌, ℕ, ◌+◌, length, drop, get_or, drop-cons, add-one, ◌≤◌, ◌%◌, ◌||◌, List, [], ◌∷◌, ◌++◌, map, max, ◌-◌, ◌<◌, ◌^◌, ◌==◌, ◌&&◌, not, Bool, true, false, cond, Option, Some, None, option_map, option_to_list, if◌then◌else◌, is_some, IfSome, IfNone, refl, ap, sym, ◌∙◌, arith, subst, unwrap_or, rules}
+use Rattle.std.proofs.Common.{◌≡◌, ℕ, ◌+◌, length, drop, get_or, drop-cons, add-one, ◌≤◌, ◌||◌, List, [], ◌∷◌, ◌++◌, max, ◌-◌, ◌<◌, ◌^◌, ◌==◌, ◌&&◌, Bool, true, false, cond, Option, Some, None, option_map, option_to_list, if◌then◌else◌, IfSome, IfNone, refl, ap, sym, ◌∙◌, arith, subst, unwrap_or, rules}
 use Rattle.std.proofs.lemmas.Bool.Decides.{nat_tests}
-use Rattle.std.specs.List.{list_any, filter, AllByRecursion}
+use Rattle.std.specs.List.{list_any, AllByRecursion}
 use Rattle.vx_sched.specs.Merging.{is_listed}
 use Rattle.std.specs.BTreeMap.{insert_entry, is_at}
 use Rattle.std.specs.Ordering.{nat_cmp}

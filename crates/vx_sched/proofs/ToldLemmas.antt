@@ -1,5 +1,5 @@
 -- What slots and bits tell of the reads of a table, and what it is after a change.
-use Rattle.std.proofs.Common.{◌≡◌, ℕ, ◌+◌, ◌%◌, ◌<◌, ◌==◌, Bool, true, false, cond, List, [], ◌∷◌, map, length, drop, get_or, drop-cons, add-one, Option, Some, None, option_map, refl, ap, sym, ◌∙◌, subst, arith}
+use Rattle.std.proofs.Common.{◌≡◌, ℕ, ◌+◌, ◌%◌, ◌<◌, ◌==◌, Bool, true, false, cond, List, [], ◌∷◌, length, drop, get_or, drop-cons, add-one, Option, Some, None, option_map, refl, ap, sym, ◌∙◌, subst, arith}
 use Rattle.std.specs.Prelude.{is_some, unwrap_or, IfSome, IfNone}
 use Rattle.std.proofs.lemmas.Bool.Decides.{nat_tests}
 use Rattle.std.proofs.lemmas.Nat.Bits.{bit_at-zero}
@@ -16,7 +16,7 @@ use Rattle.vx_sched.specs.Counting.{slot_is, count_of}
 use Rattle.vx_sched.specs.Numbered.{with_value, held}
 use Rattle.vx_sched.specs.declared.counts.Kind.{Kind}
 use Rattle.vx_sched.specs.declared.numbered.Slot.{Slot}
-use Rattle.vx_sched.specs.Entries.{Entries, entry_at, if_waits, waits_in, polled_in, after, with_stage, changed}
+use Rattle.vx_sched.specs.Entries.{Entries, entry_at, if_waits, waits_in, polled_in, after, changed}
 use Rattle.vx_sched.specs.Places.{if_waiting, stays_waiting}
 use Rattle.vx_sched.specs.Told.{settled, stage_by, told_read, told, polls_in, stays_polled, AreTold}
 use Rattle.vx_sched.specs.declared.request.ReadRequest.{ReadRequest}
@@ -24,8 +24,8 @@ use Rattle.vx_sched.specs.Stored.{Read}
 use Rattle.vx_sched.specs.declared.read.Stage.{Stage}
 use Rattle.vx_sched.specs.declared.read.Stage.TheVariants.{Registered, Polled, InFlight, Resolved}
 use Rattle.vx_sched.specs.declared.read.Change.{Change}
-use Rattle.vx_sched.specs.declared.read.Change.TheVariants.{Poll, Cancel, Take, Resolve, Settle}
-use Rattle.vx_sched.proofs.EntriesLemmas.{above-none, lookup-put, sorted-put, sorted-stage, sorted-changed, sorted-nil, change_entry, changed-at}
+use Rattle.vx_sched.specs.declared.read.Change.TheVariants.{Poll, Settle}
+use Rattle.vx_sched.proofs.EntriesLemmas.{above-none, lookup-put, sorted-put, sorted-changed, sorted-nil, change_entry, changed-at}
 use Rattle.vx_sched.proofs.TableLemmas.{at-eq}
 
 -- ---- entries in order are told by their look-ups
@@ -278,7 +278,7 @@ module _ (slots : Entries) (waits polls : Words) (t : AreTold slots waits polls)
     told-settle = told-changed Settle (told waits polls slots) (told waits' polls' slots) id (told-sorted waits polls slots t.sorted) (told-sorted waits' polls' slots t.sorted)
         (λ q. told-at waits' polls' slots q
         ∙ settle-found (entry_at slots q) (is_raised waits q) (is_raised polls q) (is_raised waits' q) (is_raised polls' q) (id == q)
-            (at-number (λ n. is_raised waits n ≡ true) id here q) (at-number (λ n. if_waiting (entry_at slots n) ≡ true) id (t.waiting id here) q) (put-waits q) (put-polls q)
+        (at-number (λ n. is_raised waits n ≡ true) id here q) (at-number (λ n. if_waiting (entry_at slots n) ≡ true) id (t.waiting id here) q) (put-waits q) (put-polls q)
         ∙ sym (ap (λ o. cond (id == q) (change_entry Settle o) o) (told-at waits polls slots q)))
 
     pub settle-told : AreTold slots waits' polls'

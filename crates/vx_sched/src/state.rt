@@ -231,7 +231,7 @@ impl State {
             let span = self.gather_from(alloc, &before, first)?;
             before.add(alloc, span.requests())?;
             spans.push(span)?;
-            from = next;
+            from = next.saturating_add(1);
         }
         Ok(spans)
     }

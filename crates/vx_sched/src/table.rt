@@ -1,14 +1,14 @@
 //! The reads of a scheduler, by number, and the places of those that wait.
-ghost use Rattle.std.specs.Prelude.{◌≡◌, ℕ, Bool, ◌==◌, ◌<◌, ◌≤◌, ◌++◌, ◌∷◌, map, length, IfOk, ◌^◌, [], None, Some, cond, true, false, ◌&&◌, not, IsSome, IfSome, IfNone, OnOk, OnErr, option_map};
-ghost use Rattle.std.specs.BTreeMap.{insert_entry, is_at};
+ghost use Rattle.std.specs.Prelude.{◌≡◌, ℕ, ◌==◌, ◌<◌, ◌≤◌, ◌++◌, ◌∷◌, length, IfOk, ◌^◌, [], None, Some, true, false, ◌&&◌, not, IfSome, IfNone, OnOk, OnErr, option_map};
+ghost use Rattle.std.specs.BTreeMap.{insert_entry};
 ghost use Rattle.std.specs.Map.{keys_of};
 ghost use Rattle.std.specs.List.Sorted.{IsNonDecreasingBy};
-ghost use Rattle.std.specs.List.{list_any, AllByRecursion};
+ghost use Rattle.std.specs.List.{AllByRecursion};
 ghost use Rattle.vx_sched.specs.declared.request.ReadRequest.{ReadRequest};
 ghost use Rattle.vx_sched.specs.Stored.{Read};
 ghost use Rattle.std.specs.Ordering.{nat_cmp};
 ghost use Rattle.vx_sched.specs.Span.{end_of};
-ghost use Rattle.vx_sched.specs.Entries.{Entries, entry_at, waiting_among, if_waits, state_of, changed, all_changed, with_stage, waits_in, polled_in};
+ghost use Rattle.vx_sched.specs.Entries.{entry_at, waiting_among, state_of, changed, all_changed};
 ghost use Rattle.vx_sched.specs.Reads.{read_at, waiting_at, polled_at, state_at, leads_at, change, register_read, poll_read, drop_read, take_read, resolve_read};
 ghost use Rattle.vx_sched.specs.Merging.{is_listed, is_in_order, first_number};
 ghost use Rattle.vx_sched.specs.Kept.{Has, HaveAll, IsKept, Names};

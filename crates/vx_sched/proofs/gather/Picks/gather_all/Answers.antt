@@ -1,4 +1,4 @@
-use Rattle.std.proofs.Common.{◌≡◌, ℕ, suc, ◌+◌, ◌<◌, ◌∷◌, drop, drop-cons, add-one, length, ap, sym, ◌∙◌, rules}
+use Rattle.std.proofs.Common.{◌≡◌, suc, ◌<◌, ◌∷◌, drop, drop-cons, add-one, length, ap, sym, ◌∙◌, rules}
 use Rattle.vx_sched.specs.Picks.{entries_of}
 use Rattle.vx_sched.specs.declared.request.ReadRequest.{ReadRequest}
 use Rattle.vx_sched.proofs.LaterLemmas.{gather-step}

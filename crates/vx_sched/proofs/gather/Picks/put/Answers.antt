@@ -1,6 +1,6 @@
-use Rattle.std.proofs.Common.{◌≡◌, ◌++◌, map, ap, sym, ◌∙◌}
+use Rattle.std.proofs.Common.{◌++◌, map, ap, sym, ◌∙◌}
 use Rattle.std.specs.BTreeMap.{insert_entry}
-use Rattle.vx_sched.specs.Picks.{at_place, entries_of, reads_of}
+use Rattle.vx_sched.specs.Picks.{at_place, reads_of}
 use Rattle.vx_sched.specs.Places.{place_cmp}
 use Rattle.vx_sched.proofs.LaterLemmas.{push-behind, insert-ahead, past-last}
 use Rattle.vx_sched.proofs.gather.Picks.put.Goals as goal

@@ -1,8 +1,6 @@
-use Rattle.std.proofs.Common.{◌≡◌, ℕ, ◌==◌, true, cond, Some, is_some, ap, sym, ◌∙◌}
-use Rattle.vx_sched.specs.BitSet.{has_room, is_raised}
+use Rattle.std.proofs.Common.{◌==◌, cond, ap, sym, ◌∙◌}
+use Rattle.vx_sched.specs.BitSet.{is_raised}
 use Rattle.vx_sched.specs.Entries.{Entries, entry_at, after, changed}
-use Rattle.vx_sched.specs.Told.{told}
-use Rattle.vx_sched.specs.declared.read.Stage.{Stage}
 use Rattle.vx_sched.proofs.EntriesLemmas.{sorted-stage}
 use Rattle.vx_sched.proofs.ToldLemmas.{told-some, put-told, told-put}
 use Rattle.vx_sched.proofs.read_map.ReadMap.change_slot.Goals as goal

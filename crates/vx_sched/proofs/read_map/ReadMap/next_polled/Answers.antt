@@ -1,6 +1,4 @@
-use Rattle.std.proofs.Common.{◌≡◌, ℕ, ap, sym, ◌∙◌, Option, Some, None}
-use Rattle.std.specs.Prelude.{IfSome, IfNone}
-use Rattle.vx_sched.specs.BitSet.{is_raised}
+use Rattle.std.proofs.Common.{ap, sym, ◌∙◌}
 use Rattle.vx_sched.specs.Entries.{Entries, entry_at}
 use Rattle.vx_sched.specs.Told.{polls_in}
 use Rattle.vx_sched.proofs.ToldLemmas.{told-polls, along-some, along-none}

@@ -1,9 +1,8 @@
-use Rattle.std.proofs.Common.{◌≡◌, false, true, cond, Option, Some, None, option_map, ap, sym, ◌∙◌, arith}
+use Rattle.std.proofs.Common.{◌≡◌, false, true, cond, Some, None, option_map, ap, sym, ◌∙◌, arith}
 use Rattle.std.proofs.lemmas.Grind.{common_steps}
 use Rattle.vx_sched.specs.BitSet.{is_raised}
 use Rattle.vx_sched.specs.Entries.{Entries, entry_at, if_waits}
 use Rattle.vx_sched.specs.Stored.{Read}
-use Rattle.vx_sched.specs.declared.request.ReadRequest.{ReadRequest}
 use Rattle.vx_sched.proofs.ToldLemmas.{told-asks}
 use Rattle.vx_sched.proofs.read_map.ReadMap.waiting.Goals as goal
 

@@ -20,7 +20,8 @@ loop-preserved c =
     let least = subst (λ rs. (q : ℕ) → c.loop.from ≤ q → q < c.in-Some.first.id → polled_at rs q ≡ true → is_among c.loop.before q ≡ true) reads c.in-Some.ensures.least in
     let numbers = subst (λ rs. (q : ℕ) → is_among c.add.new.self q ≡ (is_among c.loop.before q || is_listed rs q)) c.requests.ensures.value c.in_ok-add.ensures in (
       rw c.in_ok-push.ensures.items (so_far-step c.args.self.now c.loop.spans.items c.loop.before c.loop.from c.loop.invariant.0
-          c.in-Some.first c.in_ok-span.span c.add.new.self polled c.in-Some.ensures.fresh least c.in_ok-span.ensures numbers),
+          c.in-Some.first c.in_ok-span.span c.add.new.self polled c.in-Some.ensures.fresh least c.in_ok-span.ensures numbers
+          c.saturating_add-from.result (omega (arith, c.saturating_add-from.ensures))),
       omega (arith, ap length c.in_ok-push.ensures.items, length-append c.loop.spans.items (c.in_ok-span.span ∷ []), c.loop.invariant.1),
     )
 

@@ -1,5 +1,5 @@
 use Rattle.std.proofs.Common.{◌≡◌, ℕ, ◌≤◌, ◌<◌, ◌^◌, max, None, sym, subst, arith, rules}
-use Rattle.vx_sched.specs.Entries.{Entries, seen}
+use Rattle.vx_sched.specs.Entries.{seen}
 use Rattle.vx_sched.specs.Places.{AreGrouped}
 use Rattle.vx_sched.specs.Reads.{read_at}
 use Rattle.vx_sched.proofs.EntriesLemmas.{sorted-put}

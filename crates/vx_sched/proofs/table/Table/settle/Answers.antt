@@ -1,5 +1,3 @@
-use Rattle.std.proofs.Common.{◌≡◌, ap, sym, subst, ◌∙◌}
-use Rattle.vx_sched.specs.Entries.{seen}
 use Rattle.vx_sched.proofs.SeenLemmas.{stands-kept, waits-seen}
 use Rattle.vx_sched.proofs.SettleLemmas.{settle-view, settle-grouped}
 use Rattle.vx_sched.proofs.table.Table.settle.Goals as goal
