@@ -26,3 +26,5 @@ pub mod TreeLemmas
 pub mod BitSetLemmas
 pub mod AnswerLemmas
 pub mod NumberedLemmas
+pub mod KeptLemmas
+pub mod NearLemmas

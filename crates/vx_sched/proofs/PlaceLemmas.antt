@@ -75,42 +75,6 @@ found-all places left right at ids rise found past offset id l u h =
     let up = rise at s.at (0, 0) k s.inside in
     absurd (omega (arith, beyond, up, s.offset_is, u))) (cases_lt s.at at)
 
--- the places up to one, but for those that lie before an offset, are among some
-abbrev pub Gathered : List (ℕ × ℕ) → ℕ → List (ℕ × ℕ) → ℕ → Type 0
-Gathered places left near at = (i : ℕ) → i < at → left ≤ (get_or places i (0, 0)).0 → has_place near (get_or places i (0, 0)) ≡ true
-
-pub gathered-start : (places : List (ℕ × ℕ)) (left first : ℕ) (near : List (ℕ × ℕ)) → ((i : ℕ) (d : ℕ × ℕ) → i < first → (get_or places i d).0 < left)
-    → Gathered places left near first
-gathered-start places left first near below i l h = absurd (omega (arith, below i (0, 0) l, h))
-
-at-itself : (place : ℕ × ℕ) → is_at (place_cmp place) place ≡ true
-at-itself place = grind (arith, nat_tests)
-
-pub gathered-more : (places : List (ℕ × ℕ)) (left at : ℕ) (near : List (ℕ × ℕ)) (place : ℕ × ℕ) → place ≡ get_or places at (0, 0) → Gathered places left near at
-    → Gathered places left (near ++ place ∷ []) (at + 1)
-gathered-more places left at near place e found i l h =
-    list_any-append (is_at (place_cmp (get_or places i (0, 0)))) near (place ∷ []) ∙
-    ⊎_elim (λ (k : i < at). or-first _ _ (found i k h))
-    (λ (k : at ≤ i).
-    let same : at ≡ i = omega arith in
-    let here : is_at (place_cmp (get_or places i (0, 0))) place ≡ true =
-    ap (λ p. is_at (place_cmp (get_or places i (0, 0))) p) (e ∙ ap (λ n. get_or places n (0, 0)) same) ∙ at-itself (get_or places i (0, 0)) in
-    or-second (has_place near (get_or places i (0, 0))) _ (or-first _ false here)) (cases_lt i at)
-
--- all were gathered where none is left in bounds
-pub gathered-all : (places : List (ℕ × ℕ)) (left right at : ℕ) (near : List (ℕ × ℕ)) → IsNonDecreasingBy offset_of places → Gathered places left near at
-    → (at < length places → right < (get_or places at (0, 0)).0)
-    → (offset id : ℕ) → left ≤ offset → offset ≤ right → has_place places (offset, id) ≡ true → has_place near (offset, id) ≡ true
-gathered-all places left right at near rise found past offset id l u h =
-    let s = stands-at places offset id h in
-    ⊎_elim (λ (k : s.at < at).
-    subst (λ o. has_place near (o, id) ≡ true) s.offset_is
-    (subst (λ n. has_place near ((get_or places s.at (0, 0)).0, n) ≡ true) s.id_is (found s.at k (omega (arith, l, s.offset_is)))))
-    (λ (k : at ≤ s.at).
-    let beyond = past (omega (arith, k, s.inside)) in
-    let up = rise at s.at (0, 0) k s.inside in
-    absurd (omega (arith, beyond, up, s.offset_is, u))) (cases_lt s.at at)
-
 -- a place that a test keeps stays
 pub kept-place : (p : ℕ × ℕ → Bool) (places : List (ℕ × ℕ)) (offset id : ℕ) → p (offset, id) ≡ true → has_place places (offset, id) ≡ true
     → has_place (filter p places) (offset, id) ≡ true

@@ -17,7 +17,7 @@ use Rattle.vx_sched.specs.Told.{polls_in}
 use Rattle.vx_sched.specs.declared.read.ReadState.{ReadState}
 use Rattle.vx_sched.specs.declared.read.ReadState.TheVariants as state
 use Rattle.vx_sched.specs.Kept.{Has, HaveAll, Names, IsKept, IsTable}
-use Rattle.vx_sched.specs.Places.{place_cmp, offset_of, waits_at, stays_waiting}
+use Rattle.vx_sched.specs.Places.{place_cmp, read_offset, waits_at, stays_waiting, AreAsked, AreUpTo, AreApart}
 use Rattle.vx_sched.specs.declared.places.Places.{Places}
 use Rattle.vx_sched.specs.declared.request.ReadRequest.{ReadRequest}
 use Rattle.vx_sched.specs.Stored.{Read}
@@ -81,6 +81,29 @@ put-keeps : (P : ℕ → ReadRequest → Type 0) (q : ℕ) (r : ReadRequest) (st
 put-keeps P q r stage old y true here there h = subst (P q) (sym (put-request r stage y h)) (here refl)
 put-keeps P q r stage old y false here there h = there y h
 
+-- a read that waits after a change waited before, and asks the same
+still-waits : (x : Read) (stage : Option Stage) (s : ReadRequest) → (waits_in x.stage ≡ false → stays_waiting stage ≡ false)
+    → if_waits (option_map (λ t. record { request = x.request; stage = t }) stage) ≡ Some s → if_waits (Some x) ≡ Some s
+still-waits x None s w h = cc
+still-waits x (Some t) s w h = at (waits_in x.stage) (waits_in t) w h
+  where
+    at : (a b : Bool) → (a ≡ false → b ≡ false) → cond b (Some x.request) None ≡ Some s → cond a (Some x.request) None ≡ Some s
+    at true true w h = h
+    at true false w h = cc
+    at false true w h = absurd (cc (w refl))
+    at false false w h = cc
+
+-- the reads at places in order are as before where a change leaves them
+module _ (places places' : Places) (all : HaveAll places places') where
+  pub same-rise : IsNonDecreasingBy read_offset places.sorted.items → IsNonDecreasingBy read_offset places'.sorted.items
+  same-rise h = subst (IsNonDecreasingBy read_offset) (sym all.sorted) h
+
+  pub same-asked : (reads : Entries) → AreAsked reads places.sorted.items → AreAsked reads places'.sorted.items
+  same-asked reads h = subst (AreAsked reads) (sym all.sorted) h
+
+  pub same-newest : AreUpTo places.newest places.sorted.items → AreUpTo places'.newest places'.sorted.items
+  same-newest h = subst (λ n. AreUpTo n places'.sorted.items) (sym all.newest) (subst (AreUpTo places.newest) (sym all.sorted) h)
+
 module _ (reads reads' : Entries) (places places' : Places) (longest : ℕ) (x : Read) (stage : Option Stage) (t : IsKept reads places longest) (sorted : IsStrictlySortedBy nat_cmp (keys_of reads'))
     (found : entry_at reads x.request.id ≡ Some x) (waits : waits_in x.stage ≡ false → stays_waiting stage ≡ false)
     (lookups : (q : ℕ) → entry_at reads' q ≡ cond (is_at (nat_cmp x.request.id) q) (option_map (λ s. record { request = x.request; stage = s }) stage) (entry_at reads q))
@@ -99,12 +122,24 @@ module _ (reads reads' : Entries) (places places' : Places) (longest : ℕ) (x :
   waited-at o q false e h =
       sym (ap (waits_at o) (found-at q ∙ ap (λ b. cond b (option_map (λ s. record { request = x.request; stage = s }) stage) (entry_at reads q)) e)) ∙ h
 
+  asked-at : (q : ℕ) (s : ReadRequest) (same : Bool) → (x.request.id == q) ≡ same → waiting_in reads' q ≡ Some s → waiting_in reads q ≡ Some s
+  asked-at q s true e h =
+      let q-is : x.request.id ≡ q = grind (arith, nat_tests) in
+      let here : entry_at reads q ≡ Some x = subst (λ n. entry_at reads n ≡ Some x) q-is found in
+      let now : entry_at reads' q ≡ option_map (λ s. record { request = x.request; stage = s }) stage =
+      found-at q ∙ ap (λ b. cond b (option_map (λ s. record { request = x.request; stage = s }) stage) (entry_at reads q)) e in
+      ap if_waits here ∙ still-waits x stage s waits (sym (ap if_waits now) ∙ h)
+  asked-at q s false e h =
+      sym (ap if_waits (found-at q ∙ ap (λ b. cond b (option_map (λ s. record { request = x.request; stage = s }) stage) (entry_at reads q)) e)) ∙ h
+
   -- a table stays one where a read in it changes its stage or goes
   pub changed-table : IsKept reads' places' longest
   changed-table = record {
     sorted = sorted;
     placed = λ o q h. all.has (o, q) (t.placed o q (waited-at o q (x.request.id == q) refl h));
-    rise = all.rise t.rise;
+    rise = same-rise places places' all t.rise;
+    asked = same-asked places places' all reads' (λ k d l s h. t.asked k d l s (asked-at _ s _ refl h));
+    newest = same-newest places places' all t.newest;
     keyed = λ q y h. put-keeps (λ n r. r.id ≡ n) q x.request stage (entry_at reads q) y (x.request.id == q) (λ e. grind (arith, nat_tests)) (t.keyed q) (sym (found-at q) ∙ h);
     small = λ q y h. put-keeps (λ n r. n < 2 ^ 64) q x.request stage (entry_at reads q) y (x.request.id == q) (λ e. let s = t.small x.request.id x found in grind (arith, nat_tests)) (t.small q) (sym (found-at q) ∙ h);
     long = λ q y h. put-keeps (λ n r. r.length ≤ longest) q x.request stage (entry_at reads q) y (x.request.id == q) (λ _. t.long x.request.id x found) (t.long q) (sym (found-at q) ∙ h);
@@ -117,38 +152,47 @@ pub same-table : (reads reads' : Entries) (places places' : Places) (longest : �
 same-table reads reads' places places' longest t e all = rw e (record {
   sorted = t.sorted;
   placed = λ o q h. all.has (o, q) (t.placed o q h);
-  rise = all.rise t.rise;
+  rise = same-rise places places' all t.rise;
+  asked = same-asked places places' all reads t.asked;
+  newest = same-newest places places' all t.newest;
   keyed = t.keyed;
   small = t.small;
   long = t.long;
   fits = t.fits;
 })
 
-module _ (reads reads' : Entries) (places places' : Places) (longest : ℕ) (r : ReadRequest) (t : IsKept reads places longest) (sorted : IsStrictlySortedBy nat_cmp (keys_of reads'))
+module _ (reads reads' : Entries) (places : Places) (longest : ℕ) (r : ReadRequest) (t : IsKept reads places longest) (sorted : IsStrictlySortedBy nat_cmp (keys_of reads'))
     (fresh : entry_at reads r.id ≡ None) (number : r.id < 2 ^ 64) (ends : end_of r < 2 ^ 64)
     (lookups : (q : ℕ) → entry_at reads' q ≡ cond (is_at (nat_cmp r.id) q) (Some (record { request = r; stage = Registered })) (entry_at reads q))
-    (place : Has places' (r.offset, r.id)) (all : HaveAll places places') where
+    (place : Has places (r.offset, r.id)) (apart : AreApart r.id places.sorted.items) where
   added-at : (q : ℕ) → entry_at reads' q ≡ cond (r.id == q) (Some (record { request = r; stage = Registered })) (entry_at reads q)
   added-at q = lookups q ∙ ap (λ b. cond b (Some (record { request = r; stage = Registered })) (entry_at reads q)) (at-eq r.id q)
 
-  added-placed : (o q : ℕ) (same : Bool) → (r.id == q) ≡ same → waits_at o (entry_at reads' q) ≡ true → Has places' (o, q)
+  added-placed : (o q : ℕ) (same : Bool) → (r.id == q) ≡ same → waits_at o (entry_at reads' q) ≡ true → Has places (o, q)
   added-placed o q true e h =
       let q-is : r.id ≡ q = grind (arith, nat_tests) in
       let now : (r.offset == o) ≡ true = sym (ap (waits_at o) (added-at q ∙ ap (λ b. cond b (Some (record { request = r; stage = Registered })) (entry_at reads q)) e)) ∙ h in
       let o-is : r.offset ≡ o = grind (arith, nat_tests) in
-      subst (λ n. Has places' (o, n)) q-is (subst (λ m. Has places' (m, r.id)) o-is place)
+      subst (λ n. Has places (o, n)) q-is (subst (λ m. Has places (m, r.id)) o-is place)
   added-placed o q false e h =
-      all.has (o, q) (t.placed o q (sym (ap (waits_at o) (added-at q ∙ ap (λ b. cond b (Some (record { request = r; stage = Registered })) (entry_at reads q)) e)) ∙ h))
+      t.placed o q (sym (ap (waits_at o) (added-at q ∙ ap (λ b. cond b (Some (record { request = r; stage = Registered })) (entry_at reads q)) e)) ∙ h)
+
+  added-asked : (q : ℕ) (s : ReadRequest) → (q == r.id) ≡ false → waiting_in reads' q ≡ Some s → waiting_in reads q ≡ Some s
+  added-asked q s e h =
+      let other : (r.id == q) ≡ false = grind (arith, nat_tests) in
+      sym (ap if_waits (added-at q ∙ ap (λ b. cond b (Some (record { request = r; stage = Registered })) (entry_at reads q)) other)) ∙ h
 
   le-max : {m : ℕ} → m ≤ longest → m ≤ max longest r.length
   le-max h = omega arith
 
   -- a table with a new read is a table
-  pub added-table : IsKept reads' places' (max longest r.length)
+  pub added-table : IsKept reads' places (max longest r.length)
   added-table = record {
     sorted = sorted;
     placed = λ o q h. added-placed o q (r.id == q) refl h;
-    rise = all.rise t.rise;
+    rise = t.rise;
+    asked = λ k d l s h. t.asked k d l s (added-asked _ s (apart k d l) h);
+    newest = t.newest;
     keyed = λ q y h. put-keeps (λ n s. s.id ≡ n) q r (Some Registered) (entry_at reads q) y (r.id == q) (λ e. grind (arith, nat_tests)) (t.keyed q) (sym (added-at q) ∙ h);
     small = λ q y h. put-keeps (λ n s. n < 2 ^ 64) q r (Some Registered) (entry_at reads q) y (r.id == q) (λ e. grind (arith, nat_tests)) (t.small q) (sym (added-at q) ∙ h);
     long = λ q y h. put-keeps (λ n s. s.length ≤ max longest r.length) q r (Some Registered) (entry_at reads q) y (r.id == q) (λ _. omega arith) (λ z k. le-max (t.long q z k)) (sym (added-at q) ∙ h);
@@ -197,14 +241,6 @@ waiting-long reads places longest t id r h = at (entry_at reads id) refl h
             subst (λ n. n ≤ longest) same (t.long id x e)
         stage false k = cc
 
--- the numbers of the waiting reads near a range
-pub near-complete : (reads : Entries) (places : Places) (longest left from right first : ℕ) (ids : List ℕ) → IsKept reads places longest → first ≡ max from (left - longest)
-    → Names places first right ids
-    → (id : ℕ) (r : ReadRequest) → waiting_in reads id ≡ Some r → left ≤ end_of r → from ≤ r.offset → r.offset ≤ right → list_any (λ n. n == id) ids ≡ true
-near-complete reads places longest left from right first ids t f names id r h l o u =
-    let long = waiting-long reads places longest t id r h in
-    names r.offset id (omega arith) u (waiting-placed reads places longest t id r h)
-
 -- without places, all numbers
 pub all-complete : (reads : Entries) (ids : List ℕ) → ids ≡ keys_of reads → (id : ℕ) (r : ReadRequest) → waiting_in reads id ≡ Some r → list_any (λ n. n == id) ids ≡ true
 all-complete reads ids e id r h = rw e (at reads h)
@@ -225,16 +261,23 @@ all-complete reads ids e id r h = rw e (at reads h)
     at [] h = cc
     at (entry ∷ es) h = step entry.0 entry.1 es (at es) (is_at (nat_cmp id) entry.0) refl h
 
--- either way each waiting read near a range is named
-pub near-named : (reads : Entries) (places : Places) (longest left from right first : ℕ) (ids : List ℕ) → IsKept reads places longest → first ≡ max from (left - longest)
-    → (places.is_kept ≡ true → Names places first right ids)
+-- either way each waiting read whose offset lies in bounds is named
+pub all-named : (reads : Entries) (places : Places) (longest left right : ℕ) (ids : List ℕ) → IsKept reads places longest
+    → (places.is_kept ≡ true → Names places left right ids)
     → (places.is_kept ≡ false → ids ≡ keys_of reads)
-    → (id : ℕ) (r : ReadRequest) → waiting_in reads id ≡ Some r → left ≤ end_of r → from ≤ r.offset → r.offset ≤ right → list_any (λ n. n == id) ids ≡ true
-near-named reads places longest left from right first ids t f near all id r h l o u = at places.is_kept refl
+    → (id : ℕ) (r : ReadRequest) → waiting_in reads id ≡ Some r → left ≤ r.offset → r.offset ≤ right → list_any (λ n. n == id) ids ≡ true
+all-named reads places longest left right ids t near all id r h l u = at places.is_kept refl
   where
     at : (b : Bool) → places.is_kept ≡ b → list_any (λ n. n == id) ids ≡ true
-    at true e = near-complete reads places longest left from right first ids t f (near e) id r h l o u
+    at true e = near e r.offset id l u (waiting-placed reads places longest t id r h)
     at false e = all-complete reads ids (all e) id r h
+
+-- a waiting read near a range begins no sooner than the longest may
+pub near-first : (reads : Entries) (places : Places) (longest left from first : ℕ) → IsKept reads places longest → first ≡ max from (left - longest)
+    → (id : ℕ) (r : ReadRequest) → waiting_in reads id ≡ Some r → left ≤ end_of r → from ≤ r.offset → first ≤ r.offset
+near-first reads places longest left from first t f id r h l o =
+    let long = waiting-long reads places longest t id r h in
+    omega arith
 
 -- no waiting read lies where there is no room
 pub near-none : (reads : Entries) (places : Places) (longest left from right first : ℕ) (rs : List ReadRequest) → IsKept reads places longest → first ≡ max from (left - longest) → right < first
@@ -330,7 +373,9 @@ pub empty_table : (entries : Entries) (places : Places) → entries ≡ [] → p
 empty_table entries places e p = subst (λ (es : Entries). IsTable es places 0) (sym e) (record {
   kept = record {
     placed = λ offset id h. cc;
-    rise = subst (IsNonDecreasingBy offset_of) (sym p) (IsNonDecreasingBy-short offset_of [] (omega arith));
+    rise = subst (IsNonDecreasingBy read_offset) (sym p) (IsNonDecreasingBy-short read_offset [] (omega arith));
+    asked = subst (AreAsked []) (sym p) (λ k d l s h. absurd (omega (arith, l)));
+    newest = subst (AreUpTo places.newest) (sym p) (λ k d l. absurd (omega (arith, l)));
     sorted = sorted_from_strictly_increasing [] (search rules);
     keyed = λ id x h. cc;
     small = λ id x h. cc;

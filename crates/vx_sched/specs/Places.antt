@@ -1,13 +1,13 @@
 -- The places of waiting reads: their offsets and numbers.
-use Rattle.std.specs.Prelude.{◌≡◌, ℕ, ◌<◌, ◌^◌, ◌==◌, ◌&&◌, Bool, true, false, List, length, Option, Some, None, if◌then◌else◌}
-use Rattle.std.specs.List.{list_any}
+use Rattle.std.specs.Prelude.{◌≡◌, ℕ, ◌<◌, ◌≤◌, ◌^◌, ◌==◌, ◌&&◌, Bool, true, false, List, [], ◌∷◌, ◌++◌, length, Option, Some, None, option_to_list, if◌then◌else◌}
+use Rattle.std.specs.List.{list_any, All}
 use Rattle.std.specs.BTreeMap.{is_at}
 use Rattle.std.specs.Ordering.{nat_cmp, ordering_then}
 use Rattle.std.specs.declared.cmp.Ordering.{Ordering}
 use Rattle.vx_sched.specs.Span.{end_of}
 use Rattle.vx_sched.specs.Reads.{Reads, waiting_at, has_first}
 use Rattle.vx_sched.specs.Merging.{first_number}
-use Rattle.vx_sched.specs.Entries.{Entries, entry_at, waits_in, group}
+use Rattle.vx_sched.specs.Entries.{Entries, entry_at, if_waits, waits_in, group}
 use Rattle.vx_sched.specs.declared.read.Stage.TheVariants.{Registered, Polled, InFlight, Resolved}
 use Rattle.vx_sched.specs.declared.request.ReadRequest.{ReadRequest}
 use Rattle.vx_sched.specs.Stored.{Read}
@@ -23,6 +23,34 @@ offset_of place = place.0
 -- whether a place is among some
 abbrev pub has_place : List (ℕ × ℕ) → ℕ × ℕ → Bool
 has_place places place = list_any (is_at (place_cmp place)) places
+
+abbrev pub read_offset : ReadRequest → ℕ
+read_offset r = r.offset
+
+-- whether a read of this offset and number is among some
+abbrev pub holds_read : List ReadRequest → ℕ × ℕ → Bool
+holds_read reads place = list_any (λ r. (r.offset == place.0) && (r.id == place.1)) reads
+
+-- each read is that of the waiting read of its number, if there is one
+abbrev pub AreAsked : Entries → List ReadRequest → Type 0
+AreAsked entries reads = All (λ r. (s : ReadRequest) → if_waits (entry_at entries r.id) ≡ Some s → s ≡ r) reads
+
+-- a read is that of its number, and waits
+abbrev pub IsWaitingRead : Entries → ReadRequest → Type 0
+IsWaitingRead entries r = if_waits (entry_at entries r.id) ≡ Some r
+
+-- no number of these reads is above one
+abbrev pub AreUpTo : ℕ → List ReadRequest → Type 0
+AreUpTo newest reads = All (λ r. r.id ≤ newest) reads
+
+-- none of these reads is that of a number
+abbrev pub AreApart : ℕ → List ReadRequest → Type 0
+AreApart id reads = All (λ r. (r.id == id) ≡ false) reads
+
+-- those of the reads at places that wait
+abbrev pub waiting_of : Entries → List (ℕ × ℕ) → List ReadRequest
+waiting_of entries [] = []
+waiting_of entries (place ∷ rest) = option_to_list (if_waits (entry_at entries place.1)) ++ waiting_of entries rest
 
 -- whether there is a read, and it waits
 abbrev pub if_waiting : Option Read → Bool

@@ -3,17 +3,17 @@ ghost use Rattle.std.specs.Prelude.{◌≡◌, ℕ, ◌==◌, ◌<◌, ◌≤◌
 ghost use Rattle.std.specs.BTreeMap.{insert_entry};
 ghost use Rattle.std.specs.Map.{keys_of};
 ghost use Rattle.std.specs.List.Sorted.{IsNonDecreasingBy};
-ghost use Rattle.std.specs.List.{AllByRecursion};
+ghost use Rattle.std.specs.List.{AllByRecursion, All};
 ghost use Rattle.vx_sched.specs.declared.request.ReadRequest.{ReadRequest};
 ghost use Rattle.vx_sched.specs.Stored.{Read};
 ghost use Rattle.std.specs.Ordering.{nat_cmp};
 ghost use Rattle.vx_sched.specs.Span.{end_of};
-ghost use Rattle.vx_sched.specs.Entries.{entry_at, waiting_among, state_of, changed, all_changed};
+ghost use Rattle.vx_sched.specs.Entries.{entry_at, if_waits, waiting_among, state_of, changed, all_changed};
 ghost use Rattle.vx_sched.specs.Reads.{read_at, waiting_at, polled_at, state_at, leads_at, change, register_read, poll_read, drop_read, take_read, resolve_read};
 ghost use Rattle.vx_sched.specs.Merging.{is_listed, is_in_order, first_number};
-ghost use Rattle.vx_sched.specs.Kept.{Has, HaveAll, IsKept, Names};
+ghost use Rattle.vx_sched.specs.Kept.{Has, IsKept, Names};
 ghost use Rattle.vx_sched.specs.Picks.{is_among};
-ghost use Rattle.vx_sched.specs.Places.{AllFit, offset_of};
+ghost use Rattle.vx_sched.specs.Places.{AllFit, AreAsked, AreApart, IsWaitingRead, read_offset};
 ghost use Rattle.vx_sched.specs.Counting.{counts_of};
 ghost use Rattle.vx_sched.specs.Scheduling.{NonePolled, IsSomePolled};
 ghost use Rattle.vx_sched.specs.Told.{polls_in};
@@ -56,7 +56,8 @@ fn add(reads: &mut ReadMap, places: &mut Places, request: ReadRequest) -> Result
     ensures entries { OnOk result (reads.new ≡ insert_entry nat_cmp reads.old request.id
         (record { request = request; stage = Stage.Registered })) }
     ensures place { OnOk result (Has places.new (request.offset, request.id)) }
-    ensures places { HaveAll places.old places.new }
+    ensures places { (longest : ℕ) → IsKept reads.old places.old longest → IsKept reads.old places.new longest }
+    ensures apart { (longest : ℕ) → IsKept reads.old places.old longest → AreApart request.id places.new.sorted.items }
     ensures kept { OnErr result (reads.new ≡ reads.old) }
 {
     places.insert((request.offset, request.id))?;
@@ -116,7 +117,7 @@ fn numbers_near(
     left: u64,
     right: u64,
 ) -> Result<Vec<u64>, AllocError>
-    requires { IsNonDecreasingBy offset_of places.now.sorted.items }
+    requires { IsNonDecreasingBy read_offset places.now.sorted.items }
     ensures near { IfOk result (λ ids. places.now.is_kept ≡ true → Names places.now left right ids.items) }
     ensures all { IfOk result (λ ids. places.now.is_kept ≡ false → ids.items ≡ keys_of reads.now) }
 {
@@ -126,6 +127,30 @@ fn numbers_near(
     }
     let ids = reads.numbers(alloc)?;
     Ok(ids)
+}
+
+/// The waiting reads whose offsets lie in bounds, in order of offset and number, and perhaps others that wait. Only
+/// memory refuses.
+fn reads_between(
+    alloc: Global,
+    reads: &ReadMap,
+    places: &Places,
+    left: u64,
+    right: u64,
+) -> Result<Vec<ReadRequest>, AllocError>
+    requires rise { IsNonDecreasingBy read_offset places.now.sorted.items }
+    requires asked { AreAsked reads.now places.now.sorted.items }
+    ensures all { IfOk result (λ found. (longest : ℕ) → IsKept reads.now places.now longest →
+        (id : ℕ) (r : ReadRequest) → if_waits (entry_at reads.now id) ≡ Some r → left ≤ r.offset → r.offset ≤ right → is_listed found.items id ≡ true) }
+    ensures wait { IfOk result (λ found. (longest : ℕ) → IsKept reads.now places.now longest → All (IsWaitingRead reads.now) found.items) }
+{
+    if places.are_in_order() {
+        let found = places.waiting_between(alloc, reads, left, right)?;
+        return Ok(found);
+    }
+    let ids = numbers_near(alloc, reads, places, left, right)?;
+    let found = waiting_among(alloc, reads, &ids)?;
+    Ok(found)
 }
 
 /// The state of an entry.
@@ -255,8 +280,7 @@ impl Table {
         if first > right {
             return Ok(Vec::new(alloc));
         }
-        let ids = numbers_near(alloc, &self.reads, &self.places, first, right)?;
-        let reads = waiting_among(alloc, &self.reads, &ids)?;
+        let reads = reads_between(alloc, &self.reads, &self.places, first, right)?;
         Ok(reads)
     }
 

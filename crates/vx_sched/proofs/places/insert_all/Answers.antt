@@ -1,4 +1,4 @@
-use Rattle.std.proofs.Common.{◌≡◌, ℕ, ◌+◌, true, sym, subst, List, take, get_or}
+use Rattle.std.proofs.Common.{◌≡◌, ℕ, true, subst, List, take, get_or}
 use Rattle.std.proofs.lemmas.List.{take_more}
 use Rattle.vx_sched.specs.Places.{has_place}
 use Rattle.vx_sched.proofs.TreeLemmas.{inserted-kept, inserted-front}

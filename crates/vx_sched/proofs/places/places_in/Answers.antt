@@ -1,11 +1,13 @@
 use Rattle.std.proofs.Common.{arith}
-use Rattle.vx_sched.proofs.PlaceLemmas.{gathered-all}
+use Rattle.vx_sched.proofs.NearLemmas.{noted-all, past-one}
 use Rattle.vx_sched.proofs.places.places_in.Goals as goal
 
-pub returns-then-place-right : goal.returns-then-place-right
-returns-then-place-right c = gathered-all c.args.places.now c.args.left c.args.right c.loop-at.at c.loop-at.near.items c.requires c.loop-at.invariant (λ _. c.if-place-right.true)
+pub returns-then-read-right : goal.returns-then-read-right
+returns-then-read-right c =
+    noted-all c.args.sorted.now c.args.left c.args.right c.loop-at.at c.loop-at.near.items c.requires c.loop-at.invariant
+    (past-one c.args.sorted.now c.loop-at.at c.args.right c.index-sorted-at.result c.index-sorted-at.is c.if-read-right.true)
 
 pub returns : goal.returns
 returns c =
-    gathered-all c.args.places.now c.args.left c.args.right c.loop-at.at c.loop-at.near.items c.requires c.loop-at.invariant
+    noted-all c.args.sorted.now c.args.left c.args.right c.loop-at.at c.loop-at.near.items c.requires c.loop-at.invariant
     (λ l. absurd (omega (arith, l, c.loop-at-test.false)))

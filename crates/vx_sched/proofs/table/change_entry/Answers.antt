@@ -9,4 +9,4 @@ returns-then-change-clause-kept c longest k =
 pub returns-else-change-clause-kept : goal.returns-else-change-clause-kept
 returns-else-change-clause-kept c longest k =
     kept-changed c.args.change c.args.reads.now c.change.new.self c.args.places.now c.args.places.now longest c.args.id k c.change.ensures
-    (record { same = refl; rise = λ h. h; has = λ place h. h })
+    (record { same = refl; sorted = refl; newest = refl; has = λ place h. h })

@@ -1,8 +1,8 @@
 use Rattle.std.proofs.Common.{◌≡◌, suc, drop, drop-cons, add-one, ◌∷◌, List, ap, sym, subst, ◌∙◌, arith}
 use Rattle.std.proofs.lemmas.Grind.{common_steps}
 use Rattle.vx_sched.specs.Span.{Span}
-use Rattle.vx_sched.specs.Scheduling.{Scheduler, MergesInTurn, settled}
-use Rattle.vx_sched.proofs.SettleLemmas.{Settles, settles, settled-step, settled-turn}
+use Rattle.vx_sched.specs.Scheduling.{MergesInTurn, settled}
+use Rattle.vx_sched.proofs.SettleLemmas.{settles, settled-step, settled-turn}
 use Rattle.vx_sched.proofs.state.State.settle.Goals as goal
 
 pub settle_one-requires : goal.settle_one-requires

@@ -1,4 +1,4 @@
-use Rattle.std.proofs.Common.{◌≡◌, false, ap, sym, ◌∙◌, arith}
+use Rattle.std.proofs.Common.{ap, sym, ◌∙◌, arith}
 use Rattle.vx_sched.specs.Reads.{Reads, polled_at}
 use Rattle.vx_sched.proofs.SeenLemmas.{stands-kept, polled-seen}
 use Rattle.vx_sched.proofs.TableLemmas.{polls-polled}
