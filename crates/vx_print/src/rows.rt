@@ -13,7 +13,7 @@ use crate::words::put_quoted;
 use itoa::Buffer;
 use vx_base::Sink;
 use vx_rows::{Column, StructRows};
-use vx_text::{TextOut, put_digits};
+use vx_text::TextOut;
 
 /// Adds a truth value, or `~`.
 #[inline(always)]
@@ -48,7 +48,7 @@ fn put_number<S: Sink>(number: i128, text: &mut TextOut, out: &mut S)
     ensures { Adds (signed_decimal number) text.old (S.state out.old) text.new (S.state out.new) }
 {
     match u64::try_from(number) {
-        Ok(number) => put_digits(number, text),
+        Ok(number) => text.put_digits(number),
         Err(_) => put_signed(number, text, out),
     }
 }

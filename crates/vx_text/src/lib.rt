@@ -8,7 +8,6 @@ mod options;
 mod room;
 mod text;
 
-pub use digits::put_digits;
 pub use hexadecimal::put_hex;
 pub use numbers::{number, value};
 pub use options::{Shape, are_options, behind, first, optional_number, value_count, values_of};

@@ -1,11 +1,12 @@
 //! Room for the bytes of a text, which wait to be sent.
-ghost use Rattle.std.specs.Prelude.{◌≡◌, ◌+◌, ◌≤◌, ◌<◌, ◌++◌, ◌∷◌, [], length};
+ghost use Rattle.std.specs.Prelude.{◌≡◌, ◌+◌, ◌≤◌, ◌<◌, ◌++◌, ◌∷◌, [], length, decimal};
 
+use crate::digits::{put_digits, put_one};
 use std::marker::Model;
 use std::simd::prelude::*;
 
 /// For how many bytes there is room.
-const ROOM: usize = 32_768;
+pub(crate) const ROOM: usize = 32_768;
 
 /// Bytes that wait, at the front of an array. What stands behind them is of no account, so that nothing is wiped.
 #[derive(Drop)]
@@ -57,6 +58,25 @@ impl Room {
     {
         self.cells[self.len] = byte;
         self.len += 1;
+    }
+
+    /// Puts the digits of a number behind the others.
+    #[inline(always)]
+    pub(crate) fn put_digits(&mut self, number: u64)
+        requires { length self.old + 20 ≤ 32768 }
+        ensures { self.new ≡ self.old ++ decimal number }
+    {
+        self.len = put_digits(number, &mut self.cells, self.len);
+    }
+
+    /// Puts a byte and the digits of a number behind the others.
+    #[inline(always)]
+    pub(crate) fn put_digits_after(&mut self, byte: u8, number: u64)
+        requires { length self.old + 21 ≤ 32768 }
+        ensures { self.new ≡ self.old ++ byte ∷ decimal number }
+    {
+        let behind = put_one(byte, &mut self.cells, self.len);
+        self.len = put_digits(number, &mut self.cells, behind);
     }
 
     /// Puts bytes behind the others.

@@ -3,7 +3,6 @@ ghost use Rattle.std.specs.Prelude.{◌≡◌, ◌+◌, ◌++◌, ◌∷◌, [],
 ghost use Rattle.std.specs.Fmt.{signed_decimal};
 ghost use Rattle.vx_text.specs.Text.{Adds, Finishes, Holds, new_text};
 
-use crate::digits::put_digits;
 use crate::room::Room;
 use std::alloc::Global;
 use std::marker::Model;
@@ -164,37 +163,44 @@ impl TextOut {
         self.held.push(byte);
     }
 
+    /// Puts the digits of a number, for which there is room.
+    #[inline(always)]
+    pub fn put_digits(&mut self, number: u64)
+        requires { length self.old.held + 20 ≤ 32768 }
+        ensures { Holds (decimal number) self.old self.new }
+    {
+        self.held.put_digits(number);
+    }
+
     /// Adds the digits of a number.
     #[tactic(auto, using(crate::proofs::TextLemmas::adds_put))]
     pub fn number<S: Sink>(&mut self, out: &mut S, number: u64)
         ensures { Adds (decimal number) self.old (S.state out.old) self.new (S.state out.new) }
     {
         self.make_room(out);
-        put_digits(number, self);
+        self.put_digits(number);
     }
 
     /// Adds a number after a space.
     #[inline(always)]
-    #[tactic(auto, using(crate::proofs::TextLemmas::adds_put, crate::proofs::TextLemmas::holds_then))]
+    #[tactic(auto, using(crate::proofs::TextLemmas::adds_later))]
     pub fn number_after<S: Sink>(&mut self, out: &mut S, number: u64)
         ensures { Adds (32 ∷ decimal number) self.old (S.state out.old) self.new (S.state out.new) }
     {
         self.make_room(out);
-        self.push(b' ');
-        put_digits(number, self);
+        self.held.put_digits_after(b' ', number);
     }
 
     /// Adds the digits of a number, behind its sign where that is `-`.
-    #[tactic(auto, using(crate::proofs::TextLemmas::adds_put))]
+    #[tactic(auto, using(crate::proofs::TextLemmas::adds_put, crate::proofs::TextLemmas::adds_later))]
     pub fn integer<S: Sink>(&mut self, out: &mut S, number: i64)
         ensures { Adds (signed_decimal number) self.old (S.state out.old) self.new (S.state out.new) }
     {
         self.make_room(out);
         if number >= 0 {
-            return put_digits(number as u64, self);
+            return self.put_digits(number as u64);
         }
-        self.push(b'-');
-        put_digits(number.unsigned_abs(), self);
+        self.held.put_digits_after(b'-', number.unsigned_abs());
     }
 
     /// Ends a line.

@@ -1,7 +1,7 @@
 use Rattle.std.proofs.Common.{arith}
 use Rattle.itoa.proofs.Decimal.{decimal_four}
-use Rattle.vx_text.proofs.TextLemmas.{holds_then}
+use Rattle.vx_text.proofs.RoomLemmas.{puts_then}
 use Rattle.vx_text.proofs.digits.put_long.Goals as goal
 
-pub returns-clause-holds : goal.returns-clause-holds
-returns-clause-holds c = rw (decimal_four c.args.number (omega arith) (omega arith)) (holds_then c.put_middle-2.ensures.holds c.put_four.ensures.holds)
+pub returns-clause-puts : goal.returns-clause-puts
+returns-clause-puts c = rw (decimal_four c.args.number (omega arith) (omega arith)) (puts_then c.put_middle-behind.ensures.puts c.put_four.ensures.puts)
