@@ -1,9 +1,11 @@
 -- What a block of spans gives.
-use Rattle.std.proofs.Common.{◌≡◌, ℕ, zero, suc, ◌+◌, ◌<◌, List, [], ◌∷◌, ◌++◌, length, map, drop, get_or, Some, None, Result, Ok, Err, refl, sym, ap, ◌∙◌, subst, arith, append_assoc, add-one, inr, true, cond}
+use Rattle.std.proofs.Common.{◌≡◌, ℕ, zero, suc, ◌+◌, ◌-◌, ◌<◌, List, [], ◌∷◌, ◌++◌, length, map, drop, get_or, Some, None, Result, Ok, Err, refl, sym, ap, ◌∙◌, subst, arith, append_assoc, add-one, inr, true, cond}
 use Rattle.std.specs.Prelude.{slice_get, is_err, is_some, Vec}
 use Rattle.std.specs.Global.{Global}
 use Rattle.std.specs.Option.{option_map}
+use Rattle.std.proofs.lemmas.List.{take_all}
 use Rattle.vx_base.specs.Asking.{ranges_of, faulted}
+use Rattle.vx_base.specs.Buffer.{Buffer, bytes_at}
 use Rattle.vx_base.specs.declared.answer.ReadAtRequest.{ReadAtRequest}
 use Rattle.std.proofs.lemmas.List.Sums.{sum_by_from}
 use Rattle.vx_base.specs.Counts.{Rises}
@@ -13,9 +15,12 @@ use Rattle.vx_sched.specs.Io.{request_of}
 use Rattle.vx_sched.specs.Outcomes.{log_of, AreOutcomesOf, AskCause}
 use Rattle.vx_sched.specs.Span as sched
 use Rattle.vx_sched.specs.declared.fault.Outcome.{Outcome}
+use Rattle.vx_sched.specs.declared.request.ReadRequest.{ReadRequest}
 use Rattle.vx_sched.specs.declared.fault.Outcome.TheVariants as out
 use Rattle.vx_source.specs.Asks.{asked_by, bad_spans}
-use Rattle.vx_source.specs.Blocks.{reports_of, filed_of, AskedBlock}
+use Rattle.vx_source.specs.Blocks.{reports_of, filed_of, filed_good, AskedBlock}
+use Rattle.vx_source.specs.Requests.{Filed}
+use Rattle.vx_source.specs.declared.span.SpanOutcome.TheVariants.{Good}
 use Rattle.vx_source.specs.declared.filing.Block.{Block}
 
 get-or-some : {X : Type 0} (xs : List X) (i : ℕ) (d : X) → i < length xs → slice_get xs i ≡ Some (get_or xs i d)
@@ -36,6 +41,17 @@ drop-at (y ∷ ys) (suc i) x e = drop-at ys i x e
 pub map-more : {X Y : Type 0} (f : X → Y) (front : List Y) (xs : List X) (i : ℕ) (x : X) → slice_get xs i ≡ Some x
     → (front ++ f x ∷ []) ++ map f (drop (i + 1) xs) ≡ front ++ map f (drop i xs)
 map-more f front xs i x e = rw append_assoc (rw add-one (ap (λ ys. front ++ map f ys) (sym (drop-at xs i x e))))
+
+-- a read alone that has all bytes of a span is given them as they are
+pub whole-good : (span : sched.Span) (buffer : Buffer) (read : ReadRequest) (front : List Filed) → span.reads ≡ read ∷ [] → read.offset ≡ span.start → read.length ≡ span.end - span.start
+    → length buffer.bytes ≡ span.end - span.start
+    → front ++ record { read = read.id; outcome = Good; bytes = Some (record { bytes = buffer.bytes; alignment = read.alignment }) } ∷ [] ≡ front ++ map (filed_good span buffer) span.reads
+whole-good span buffer read front only start whole long =
+    let begins : read.offset - span.start ≡ 0 = omega (arith, start) in
+    let all : bytes_at buffer.bytes (read.offset - span.start) read.length ≡ buffer.bytes =
+    ap (λ n. bytes_at buffer.bytes n read.length) begins ∙ take_all read.length buffer.bytes (omega (arith, whole, long)) in
+    ap (λ b. front ++ record { read = read.id; outcome = Good; bytes = Some (record { bytes = b; alignment = read.alignment }) } ∷ []) (sym all)
+    ∙ ap (λ rs. front ++ map (filed_good span buffer) rs) (sym only)
 
 -- ---- the log of a block
 

@@ -1,5 +1,5 @@
 //! What asking a block of spans gives, and how it is filed.
-ghost use Rattle.std.specs.Prelude.{◌≡◌, ◌-◌, ◌≤◌, ◌++◌, ◌∷◌, [], map, length, IfOk, OnOk};
+ghost use Rattle.std.specs.Prelude.{◌≡◌, ◌-◌, ◌≤◌, ◌++◌, ◌∷◌, [], map, length, IfOk, IfSome, OnOk};
 ghost use Rattle.vx_base.specs.Readers.{SameReader};
 ghost use Rattle.vx_sched.specs.Io.{request_of};
 ghost use Rattle.vx_sched.specs.Metrics.{with_call};
@@ -46,8 +46,27 @@ fn report(alloc: Global, span: &CoalescedRequest, outcome: SpanOutcome) -> Resul
     })
 }
 
+/// The read of a span, where it is one alone and has all bytes of the span.
+fn only_read(span: &CoalescedRequest) -> Option<ReadRequest>
+    ensures only { IfSome result (λ read. span.now.reads ≡ read ∷ []) }
+    ensures start { IfSome result (λ read. read.offset ≡ span.now.start) }
+    ensures whole { IfSome result (λ read. read.length ≡ span.now.end - span.now.start) }
+{
+    let range = span.range();
+    match span.requests() {
+        [read] => {
+            if read.offset == range.start && read.length as u64 == range.end - range.start {
+                Some(*read)
+            } else {
+                None
+            }
+        }
+        _ => None,
+    }
+}
+
 /// Cuts the bytes of a span for each of its reads.
-fn file_good(
+fn file_cuts(
     alloc: Global,
     span: &CoalescedRequest,
     buffer: &ByteBuffer,
@@ -61,6 +80,26 @@ fn file_good(
         filed.push(Filed::good(span.requests()[index].id, bytes))?;
     }
     Ok(())
+}
+
+/// Gives the reads of a span its bytes. One alone that has all of them takes them as they are.
+fn file_good(
+    alloc: Global,
+    span: &CoalescedRequest,
+    buffer: ByteBuffer,
+    filed: &mut Vec<Filed>,
+) -> Result<(), AllocError>
+    requires { length buffer.bytes ≡ span.now.end - span.now.start }
+    ensures { OnOk result (filed.new.items ≡ filed.old.items ++ map (filed_good span.now buffer) span.now.reads) }
+{
+    match only_read(span) {
+        Some(read) => {
+            let bytes = buffer.aligned(read.alignment);
+            filed.push(Filed::good(read.id, bytes))?;
+            Ok(())
+        }
+        None => file_cuts(alloc, span, &buffer, filed),
+    }
 }
 
 /// Gives each read of a span its fault.
@@ -91,7 +130,7 @@ fn add_span(
     block.filed.reserve(span.requests().len())?;
     match outcome {
         Outcome::Bytes(buffer) => {
-            file_good(alloc, span, &buffer, &mut block.filed)?;
+            file_good(alloc, span, buffer, &mut block.filed)?;
             block.reports.push(report(alloc, span, SpanOutcome::Good)?)?;
         }
         Outcome::Fault(fault) => {

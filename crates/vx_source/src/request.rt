@@ -1,5 +1,5 @@
 //! What a session keeps of its requests and their reads.
-ghost use Rattle.std.specs.Prelude.{◌≡◌, ◌<◌, Some, None, true, false, IfOk};
+ghost use Rattle.std.specs.Prelude.{◌≡◌, ◌<◌, ◌≤◌, Some, None, true, false, IfOk, IfSome, IfNone};
 ghost use Rattle.vx_source.specs.Blocks.{with_filed};
 ghost use Rattle.vx_source.specs.Kept.{ended, one_more, one_less, marked};
 ghost use Rattle.vx_source.specs.Requests.{standing_in, outcome_in, bytes_in, Held, Reads};
@@ -8,6 +8,7 @@ ghost use Rattle.vx_source.specs.declared.span.SpanOutcome.TheVariants.{Good, Ba
 use crate::SpanOutcome;
 use std::alloc::{AllocError, Global};
 use std::marker::Model;
+use std::mem;
 use vx_base::ByteBuffer;
 use vx_sched::Fault;
 
@@ -172,6 +173,23 @@ impl SharedRead {
         ensures { IfOk result (λ bytes. bytes ≡ self.now.bytes) }
     {
         self.fate.share(alloc)
+    }
+
+    /// Its last request leaves with its bytes, if they are there.
+    pub fn take_bytes(&mut self) -> Option<ByteBuffer>
+        requires { self.old.users ≤ 1 }
+        ensures bytes { result ≡ self.old.bytes }
+        ensures taken { IfSome result (λ _. self.new ≡ one_less self.old) }
+        ensures kept { IfNone result (self.new ≡ self.old) }
+    {
+        let Fate::Good(_) = &self.fate else {
+            return None;
+        };
+        self.requests = self.requests.saturating_sub(1);
+        match mem::replace(&mut self.fate, Fate::Spent) {
+            Fate::Good(buffer) => Some(buffer),
+            _ => unreachable!(),
+        }
     }
 
     /// It has one request more.

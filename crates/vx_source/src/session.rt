@@ -26,7 +26,7 @@ use crate::filing::{Block, ask_block, count_block, file_all};
 use crate::look::Look;
 use crate::putting::{put_all, puts_of};
 use crate::request::{Filed, Newest, Place, Request, SharedRead};
-use crate::slots::{add_user, end_request, mark_polled, put_newest, remove_user};
+use crate::slots::{add_user, end_request, mark_polled, put_newest, remove_user, take_bytes};
 use crate::telling::{tell_begin, tell_block, tell_drop, tell_poll};
 use crate::{FailCause, Reply, Span, SpanOutcome, Tail};
 use std::alloc::{AllocError, Global};
@@ -48,6 +48,8 @@ pub struct Session {
     reads: Vec<SharedRead>,
     newest: Vec<Newest>,
     counts: RequestMetrics,
+    /// How many reads were polled since the last drive, for the room of the next one's spans.
+    polled: usize,
 }
 
 impl Model for Session {
@@ -165,6 +167,7 @@ impl Session {
             reads,
             newest,
             counts: RequestMetrics::new(),
+            polled: 0,
         })
     }
 
@@ -188,6 +191,7 @@ impl Session {
         self.reads.clear();
         forget_reads(&mut self.newest);
         self.counts = RequestMetrics::new();
+        self.polled = 0;
     }
 
     /// How many numbers were made.
@@ -413,9 +417,25 @@ impl Session {
         }
         tell_poll(&mut self.core, r);
         mark_polled(&mut self.reads, r as usize);
+        self.polled = self.polled.saturating_add(1);
     }
 
-    /// Answers a poll of a request whose read has its bytes.
+    /// The last request of a read ends with the read's bytes, if they are there.
+    #[inline(always)]
+    fn leave_with_bytes(&mut self, n: usize, r: u64) -> Reply
+        requires { (x : SharedRead) → slice_get self.old.reads r ≡ Some x → x.users ≤ 1 }
+        ensures reply { (x : SharedRead) → slice_get self.old.reads r ≡ Some x → result ≡ reply_good x.bytes }
+        ensures after { (x : SharedRead) → slice_get self.old.reads r ≡ Some x → self.new ≡ after_good self.old n r x.bytes }
+    {
+        let Some(buffer) = take_bytes(&mut self.reads, r as usize) else {
+            return Reply::NotLive;
+        };
+        tell_drop(&mut self.core, r);
+        end_request(&mut self.requests, n);
+        Reply::Ready(buffer)
+    }
+
+    /// Answers a poll of a request whose read has its bytes. The last one takes them, and needs no further owner of them.
     #[inline(always)]
     fn poll_good(&mut self, alloc: Global, n: usize, r: u64) -> Result<Reply, AllocError>
         ensures reply { (x : SharedRead) → slice_get self.old.reads r ≡ Some x → IfOk result (λ reply. reply ≡ reply_good x.bytes) }
@@ -425,6 +445,10 @@ impl Session {
         let Some(read) = self.reads.get(r as usize) else {
             return Ok(Reply::NotLive);
         };
+        let users = read.users();
+        if users <= 1 {
+            return Ok(self.leave_with_bytes(n, r));
+        }
         let Some(buffer) = read.share_bytes(alloc)? else {
             return Ok(Reply::NotLive);
         };
@@ -629,6 +653,19 @@ impl Session {
         count_block(&mut self.counts, spans);
     }
 
+    /// Room for the spans of a drive, if there is memory for all, since a vector that grows fills its memory anew.
+    fn room_for_spans(&mut self, alloc: Global) -> Vec<Span>
+        ensures none { result.items ≡ [] }
+        ensures kept { self.new ≡ self.old }
+    {
+        let count = self.polled;
+        self.polled = 0;
+        match Vec::with_capacity(alloc, count) {
+            Ok(room) => room,
+            Err(_) => Vec::new(alloc),
+        }
+    }
+
     /// Asks the next block, if a polled read waits, and tells whether more may wait. Without memory nothing changes
     /// but the reader.
     fn turn<R: Reader, C: SegmentCache>(
@@ -702,7 +739,7 @@ impl Session {
         ensures same { SameReader (R.state reader.old) (R.state reader.new) }
         ensures same_cache { SameCache (C.state cache.old) (C.state cache.new) }
     {
-        let mut done = Vec::new(alloc);
+        let mut done = self.room_for_spans(alloc);
         while self.turn(alloc, reader, cache, &mut done)? {}
         Ok(done)
     }

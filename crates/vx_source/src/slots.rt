@@ -1,8 +1,9 @@
 //! Changes of one request or one read.
-ghost use Rattle.std.specs.Prelude.{◌≡◌, ◌+◌, ◌-◌, ◌<◌, ◌++◌, ◌∷◌, [], Some, vec_len, vec_capacity};
+ghost use Rattle.std.specs.Prelude.{◌≡◌, ◌+◌, ◌-◌, ◌<◌, ◌≤◌, ◌++◌, ◌∷◌, [], Some, slice_get, vec_len, vec_capacity, IfSome, IfNone};
 ghost use Rattle.vx_source.specs.Kept.{update, ended, one_more, one_less, marked};
 
 use crate::request::{Newest, Request, SharedRead};
+use vx_base::ByteBuffer;
 
 /// Ends a request.
 pub fn end_request(requests: &mut Vec<Request>, n: usize)
@@ -34,6 +35,19 @@ pub fn remove_user(reads: &mut Vec<SharedRead>, r: usize)
         return;
     }
     reads[r].remove_user();
+}
+
+/// The last request of a read leaves with the read's bytes, if they are there.
+pub fn take_bytes(reads: &mut Vec<SharedRead>, r: usize) -> Option<ByteBuffer>
+    requires { (x : SharedRead) → slice_get reads.old.items r ≡ Some x → x.users ≤ 1 }
+    ensures bytes { (x : SharedRead) → slice_get reads.old.items r ≡ Some x → result ≡ x.bytes }
+    ensures taken { IfSome result (λ _. reads.new.items ≡ update one_less reads.old.items r) }
+    ensures kept { IfNone result (reads.new.items ≡ reads.old.items) }
+{
+    if r >= reads.len() {
+        return None;
+    }
+    reads[r].take_bytes()
 }
 
 /// A read was polled.

@@ -69,7 +69,7 @@ pub loop-done-init : goal.loop-done-init
 loop-done-init g c =
     let state = g.R.Reader.state in
     let cache = g.C.SegmentCache.state in
-    rw c.new-done.ensures.items (record {
+    rw (c.room_for_spans-done.ensures.kept, c.room_for_spans-done.ensures.none) (record {
       driving = λ w past st. driving-start w past c.args.self.now st;
       bytes = λ w past file told st h. h;
       slices = λ w past file told st h t. t;
