@@ -6,8 +6,6 @@ use Rattle.vx_source.specs.declared.reply.Reply.{Reply}
 use Rattle.vx_file.specs.declared.replies.ReplyKind.{ReplyKind}
 use Rattle.vx_file.specs.declared.replies.ReplyKind.TheVariants.{Registered, Held, MissingSegment, Pending, Dropped, NotLive, Idle, Whole}
 use Rattle.vx_file.specs.declared.script.StepKind.{StepKind}
-use Rattle.vx_file.specs.declared.script.StepKind.TheVariants as kinds
-use Rattle.vx_file.specs.declared.step.Step.{Step}
 use Rattle.vx_file.specs.CompactReplies.{whole_count, registered_count, reply_by, replies_by, whole_in, registered_in, Keeps}
 use Rattle.vx_file.specs.CompactScript.{number_count, step_by, steps_by, numbers_of_kinds}
 

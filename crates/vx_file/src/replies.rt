@@ -139,9 +139,20 @@ impl Replies {
         })
     }
 
-    /// Adds a reply at the end. Without memory nothing changes.
+    /// Makes room for all replies that are left, if there is memory for it, before the first that is kept whole.
     #[inline(always)]
-    pub(crate) fn push(&mut self, reply: Reply) -> Result<(), AllocError>
+    fn make_room(&mut self, reply: &Reply)
+        ensures { self.new ≡ self.old }
+    {
+        if !self.whole.is_empty() || ReplyKind::of(reply, self.registered) != ReplyKind::Whole {
+            return;
+        }
+        let left = self.kinds.capacity().saturating_sub(self.kinds.len());
+        let _ = self.whole.reserve(left);
+    }
+
+    #[inline(always)]
+    fn add(&mut self, reply: Reply) -> Result<(), AllocError>
         ensures ok { OnOk result (self.new ≡ self.old ++ reply ∷ []) }
         ensures err { OnErr result (self.new ≡ self.old) }
     {
@@ -158,6 +169,16 @@ impl Replies {
                 Err(failed.into())
             }
         }
+    }
+
+    /// Adds a reply at the end. Without memory nothing changes.
+    #[inline(always)]
+    pub(crate) fn push(&mut self, reply: Reply) -> Result<(), AllocError>
+        ensures ok { OnOk result (self.new ≡ self.old ++ reply ∷ []) }
+        ensures err { OnErr result (self.new ≡ self.old) }
+    {
+        self.make_room(&reply);
+        self.add(reply)
     }
 
     /// How many replies there are.

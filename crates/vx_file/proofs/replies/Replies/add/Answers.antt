@@ -2,7 +2,7 @@ use Rattle.std.proofs.Common.{◌≡◌, ◌++◌, ◌∷◌, [], ◌∙◌, ref
 use Rattle.vx_file.specs.declared.replies.ReplyKind.TheVariants.{Whole}
 use Rattle.vx_file.specs.CompactReplies.{registered_count, whole_count}
 use Rattle.vx_file.proofs.CompactLemmas.{whole-pushed, registered-pushed, registered-most, whole-is, kept-short, kept-whole}
-use Rattle.vx_file.proofs.replies.Replies.push.Goals as goal
+use Rattle.vx_file.proofs.replies.Replies.add.Goals as goal
 
 pub overflow_add-self : goal.overflow_add-self
 overflow_add-self c =
