@@ -1,5 +1,5 @@
 -- What slots and bits tell of the reads of a table, and what it is after a change.
-use Rattle.std.proofs.Common.{◌≡◌, ℕ, ◌+◌, ◌%◌, ◌<◌, ◌==◌, Bool, true, false, cond, List, [], ◌∷◌, length, drop, get_or, drop-cons, add-one, Option, Some, None, option_map, refl, ap, sym, ◌∙◌, subst, arith}
+use Rattle.std.proofs.Common.{◌≡◌, ℕ, ◌+◌, ◌%◌, ◌<◌, ◌==◌, Bool, true, false, cond, not, List, [], ◌∷◌, length, drop, get_or, drop-cons, add-one, Option, Some, None, option_map, refl, ap, sym, ◌∙◌, subst, arith}
 use Rattle.std.specs.Prelude.{is_some, unwrap_or, IfSome, IfNone}
 use Rattle.std.proofs.lemmas.Bool.Decides.{nat_tests}
 use Rattle.std.proofs.lemmas.Nat.Bits.{bit_at-zero}
@@ -18,13 +18,13 @@ use Rattle.vx_sched.specs.declared.counts.Kind.{Kind}
 use Rattle.vx_sched.specs.declared.numbered.Slot.{Slot}
 use Rattle.vx_sched.specs.Entries.{Entries, entry_at, if_waits, waits_in, polled_in, after, changed}
 use Rattle.vx_sched.specs.Places.{if_waiting, stays_waiting}
-use Rattle.vx_sched.specs.Told.{settled, stage_by, told_read, told, polls_in, stays_polled, AreTold}
+use Rattle.vx_sched.specs.Told.{settled, stage_by, told_read, told, polls_in, stays_polled, leaves, AreTold}
 use Rattle.vx_sched.specs.declared.request.ReadRequest.{ReadRequest}
 use Rattle.vx_sched.specs.Stored.{Read}
 use Rattle.vx_sched.specs.declared.read.Stage.{Stage}
 use Rattle.vx_sched.specs.declared.read.Stage.TheVariants.{Registered, Polled, InFlight, Resolved}
 use Rattle.vx_sched.specs.declared.read.Change.{Change}
-use Rattle.vx_sched.specs.declared.read.Change.TheVariants.{Poll, Settle}
+use Rattle.vx_sched.specs.declared.read.Change.TheVariants.{Poll, Cancel, Take, Resolve, Settle}
 use Rattle.vx_sched.proofs.EntriesLemmas.{above-none, lookup-put, sorted-put, sorted-changed, sorted-nil, change_entry, changed-at}
 use Rattle.vx_sched.proofs.TableLemmas.{at-eq}
 
@@ -408,6 +408,54 @@ cleared raised id n h = at (id == n) refl
     at : (b : Bool) → (id == n) ≡ b → raised n ≡ cond b false (raised n)
     at true e = at-number (λ m. raised m ≡ false) id h n e
     at false e = refl
+
+-- a read that does not wait does not wait after a change
+rests : (c : Change) (s : Stage) → waits_in s ≡ false → (stays_waiting (after c s) ≡ false) × (stays_polled (after c s) ≡ false)
+rests c Registered h = cc h
+rests c Polled h = cc h
+rests Poll (InFlight _ _ _) h = (refl, refl)
+rests Cancel (InFlight _ _ _) h = (refl, refl)
+rests (Take _ _) (InFlight _ _ _) h = (refl, refl)
+rests Resolve (InFlight _ _ true) h = (refl, refl)
+rests Resolve (InFlight _ _ false) h = (refl, refl)
+rests Settle (InFlight _ _ _) h = (refl, refl)
+rests Poll Resolved h = (refl, refl)
+rests Cancel Resolved h = (refl, refl)
+rests (Take _ _) Resolved h = (refl, refl)
+rests Resolve Resolved h = (refl, refl)
+rests Settle Resolved h = (refl, refl)
+
+-- so its bits say the same before and after
+module _ (slots : Entries) (waits polls : Words) (t : AreTold slots waits polls) (id : ℕ) (c : Change) (x : Read) (stage : Option Stage)
+    (found : entry_at (told waits polls slots) id ≡ Some x) (leads : stage ≡ after c x.stage) (idle : waits_in x.stage ≡ false) where
+  low : is_raised waits id ≡ false
+  low = sym (told-waits slots waits polls t id) ∙ ap if_waiting found ∙ idle
+
+  pub idle-waits : (n : ℕ) → is_raised waits n ≡ cond (id == n) (stays_waiting stage) (is_raised waits n)
+  idle-waits n = cleared (is_raised waits) id n low ∙ ap (λ b. cond (id == n) b (is_raised waits n)) (sym (ap stays_waiting leads ∙ (rests c x.stage idle).0))
+
+  pub idle-polls : (n : ℕ) → is_raised polls n ≡ cond (id == n) (stays_polled stage) (is_raised polls n)
+  idle-polls n =
+      cleared (is_raised polls) id n (bool-false (is_raised polls id) (λ p. sym low ∙ t.polled id p))
+      ∙ ap (λ b. cond (id == n) b (is_raised polls n)) (sym (ap stays_polled leads ∙ (rests c x.stage idle).1))
+
+-- whether a read waits no longer, by its bits before and after
+pub left-by : (before now : Option Read) (w w' : Bool) → if_waiting before ≡ w → if_waiting now ≡ w' → leaves before now ≡ cond w' false w
+left-by before now w w' h k = ap (λ b. cond b false (if_waiting before)) k ∙ ap (λ b. cond w' false b) h
+
+pub left-now : (before now : Option Read) (w' : Bool) → if_waiting before ≡ true → if_waiting now ≡ w' → leaves before now ≡ not w'
+left-now before now w' h k = left-by before now true w' h k ∙ at w'
+  where
+    at : (b : Bool) → cond b false true ≡ not b
+    at true = refl
+    at false = refl
+
+pub left-none : (before now : Option Read) → if_waiting before ≡ false → leaves before now ≡ false
+left-none before now h = ap (λ b. cond (if_waiting now) false b) h ∙ at (if_waiting now)
+  where
+    at : (b : Bool) → cond b false false ≡ false
+    at true = refl
+    at false = refl
 
 -- the count of what slots tell, by the first
 pub count-first : (kind : Kind) (waits polls : Words) (slot : Slot Read) (rest : List (Slot Read))

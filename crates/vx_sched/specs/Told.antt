@@ -37,6 +37,10 @@ abbrev pub stays_polled : Option Stage → Bool
 stays_polled None = false
 stays_polled (Some stage) = polled_in stage
 
+-- whether a read, if there is one, waited before and waits no longer
+abbrev pub leaves : Option Read → Option Read → Bool
+leaves before now = if if_waiting now then false else if_waiting before
+
 -- each slot has its bits, a read that waits does so by its slot too, and one that was polled waits
 pub record AreTold (slots : Entries) (waits polls : Words) : Type 0 where
   pub sorted : IsStrictlySortedBy nat_cmp (keys_of slots)

@@ -11,7 +11,7 @@ ghost use Rattle.vx_sched.specs.Entries.{entry_at, if_waits, changed, with_stage
 ghost use Rattle.vx_sched.specs.BitSet.{is_raised};
 ghost use Rattle.vx_sched.specs.Numbered.{held};
 ghost use Rattle.vx_sched.specs.Places.{if_waiting, stays_waiting};
-ghost use Rattle.vx_sched.specs.Told.{stage_by, told_read, told, polls_in, stays_polled};
+ghost use Rattle.vx_sched.specs.Told.{stage_by, told_read, told, polls_in, stays_polled, leaves};
 ghost use Rattle.vx_sched.specs.declared.read.Change.TheVariants as Change;
 ghost use Rattle.vx_sched.specs.declared.read.Stage.TheVariants as Stage;
 
@@ -229,7 +229,8 @@ impl ReadMap {
     /// Polls the read of a number, if it waits.
     #[inline(always)]
     fn poll(&mut self, id: u64)
-        ensures { self.new ≡ changed Change.Poll self.old id }
+        ensures changed { self.new ≡ changed Change.Poll self.old id }
+        ensures stays { leaves (entry_at self.old id) (entry_at self.new id) ≡ false }
     {
         if !self.waits.has(id) {
             return;
@@ -240,7 +241,8 @@ impl ReadMap {
     /// Settles the read of a number, if it waits, and says whether it did.
     #[inline(always)]
     fn settle(&mut self, id: u64) -> bool
-        ensures { self.new ≡ changed Change.Settle self.old id }
+        ensures changed { self.new ≡ changed Change.Settle self.old id }
+        ensures left { result ≡ leaves (entry_at self.old id) (entry_at self.new id) }
     {
         if !self.waits.has(id) {
             return false;
@@ -252,7 +254,8 @@ impl ReadMap {
 
     /// Changes the read of a number in its slot, and says whether it waits no longer.
     fn change_slot(&mut self, change: Change, id: u64) -> bool
-        ensures { self.new ≡ changed change self.old id }
+        ensures changed { self.new ≡ changed change self.old id }
+        ensures left { result ≡ leaves (entry_at self.old id) (entry_at self.new id) }
     {
         let Some(read) = self.get(id) else {
             return false;
@@ -262,15 +265,19 @@ impl ReadMap {
         let waits = stays_waiting(&stage);
         let polled = stays_polled(&stage);
         put(&mut self.slots, id, read.request(), stage);
+        if !before.is_waiting() {
+            return false;
+        }
         self.waits.put(id, waits);
         self.polls.put(id, polled);
-        before.is_waiting() && !waits
+        !waits
     }
 
     /// Changes the read of a number, if there is one, and says whether it waits no longer.
     #[inline(always)]
     pub fn change(&mut self, change: Change, id: u64) -> bool
-        ensures { self.new ≡ changed change self.old id }
+        ensures changed { self.new ≡ changed change self.old id }
+        ensures left { result ≡ leaves (entry_at self.old id) (entry_at self.new id) }
     {
         match change {
             Change::Poll => {

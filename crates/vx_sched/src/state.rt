@@ -21,6 +21,9 @@ use std::alloc::{AllocError, Global};
 use std::marker::Model;
 use vx_base::Alignment;
 
+/// For at most so many spans of a batch room is made at once.
+const FEW: usize = 64;
+
 /// Reads that are registered, polled, in flight and resolved, and how they are gathered.
 #[derive(Drop)]
 pub struct State {
@@ -220,7 +223,7 @@ impl State {
             ≡ ranges_in_flight self.now.reads + length spans.items) }
         ensures apart { IfOk result (λ spans. AreApart spans.items) }
     {
-        let mut spans = Vec::new(alloc);
+        let mut spans = Vec::with_capacity(alloc, most.min(FEW))?;
         let mut before = Taken::new(alloc);
         let mut from = 0;
         for _ in 0..most {
