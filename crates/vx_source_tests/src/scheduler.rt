@@ -83,22 +83,22 @@ fn at_distance(
     }
 }
 
-// Whether the first span of a row has its range.
-fn holds(rt: &impl Abort, alloc: Global, row: &Row) -> Result<bool, Fail> {
+// The state of a row: the first read is polled.
+fn state_of(rt: &impl Abort, alloc: Global, row: &Row) -> Result<State, Fail> {
     let (first, second) = (row.polled, row.registered);
-    let mut state = State::new(
-        alloc,
-        row.distance,
-        row.max_read_size,
-        aligned(row.exponent),
-        4,
-    );
     assert!(rt; first.0 < 2000000 && first.1 < 2000000);
     assert!(rt; second.0 < 2000000 && second.1 < 2000000);
+    let alignment = aligned(row.exponent);
+    let mut state = State::new(alloc, row.distance, row.max_read_size, alignment, 4);
     state.on_event(ReadEvent::Request(read(0, first.0, first.1)))?;
     state.on_event(ReadEvent::Request(read(1, second.0, second.1)))?;
     state.on_event(ReadEvent::Polled(0))?;
-    let spans = state.batch(alloc, 4)?;
+    Ok(state)
+}
+
+// Whether the first span of a row has its range.
+fn holds(rt: &impl Abort, alloc: Global, row: &Row) -> Result<bool, Fail> {
+    let spans = state_of(rt, alloc, row)?.batch(alloc, 4)?;
     let range = spans.first().ok_or("no span")?.range();
     Ok(spans.len() == 1 && range.start == row.range.0 && range.end == row.range.1)
 }
@@ -148,54 +148,75 @@ fn spans_of_two_reads(rt: HostRuntime) -> Result<(), Fail> {
     Ok(())
 }
 
-#[test]
-fn a_span_is_taken_resolved_and_gone(rt: HostRuntime) -> Result<(), Fail> {
-    let mut state = State::new(rt.alloc(), None, None, aligned(0), 2);
+// A state whose only read is polled.
+fn polled(alloc: Global) -> Result<State, Fail> {
+    let mut state = State::new(alloc, None, None, aligned(0), 2);
     state.on_event(ReadEvent::Request(read(3, 7, 5)))?;
-    assert_eq!(rt; state.counts().registered, 1);
     state.on_event(ReadEvent::Polled(3))?;
-    assert_eq!(rt; state.counts().ranges, 0);
-    let span = state.next(rt.alloc())?.ok_or("no span")?;
-    assert_eq!(rt; span.range().start, 7);
-    assert_eq!(rt; span.range().end, 12);
-    assert_eq!(rt; state.counts().in_flight, 1);
-    assert_eq!(rt; state.counts().ranges, 1);
-    assert!(rt; state.next(rt.alloc())?.is_none());
-    assert!(rt; state.is_in_flight(&span));
-    let asked = request_of(&span);
-    assert!(rt; asked.offset == 7 && asked.length == 5);
-    state.resolve(&span);
-    assert!(rt; state.read_state(3) == Some(ReadState::Resolved));
-    assert!(rt; !state.is_in_flight(&span));
-    assert_eq!(rt; state.counts().resolved, 1);
-    state.on_event(ReadEvent::Dropped(3))?;
-    assert_eq!(rt; state.counts().resolved, 0);
-    Ok(())
+    Ok(state)
+}
+
+// How many reads are polled, in flight and resolved, and how many ranges are in flight.
+fn counted(state: &State) -> (usize, usize, usize, usize) {
+    let counts = state.counts();
+    (
+        counts.polled,
+        counts.in_flight,
+        counts.resolved,
+        counts.ranges,
+    )
 }
 
 #[test]
-fn a_batch_is_settled(rt: HostRuntime) -> Result<(), Fail> {
-    let mut state = State::new(rt.alloc(), Some(0), None, aligned(0), 2);
-    assert_eq!(rt; state.concurrency(), 2);
+fn a_span_is_taken_resolved_and_gone(rt: HostRuntime) -> Result<(), Fail> {
+    let mut state = polled(rt.alloc())?;
+    assert!(rt; counted(&state) == (1, 0, 0, 0));
+    assert!(rt; state.counts().ranges < state.concurrency());
+    let span = state.next(rt.alloc())?.ok_or("no span")?;
+    let asked = request_of(&span);
+    assert!(rt; asked.offset == 7 && asked.length == 5);
+    assert!(rt; counted(&state) == (0, 1, 0, 1));
+    assert!(rt; state.is_in_flight(&span));
+    state.resolve(&span);
+    assert!(rt; counted(&state) == (0, 0, 1, 0));
+    state.on_event(ReadEvent::Dropped(3))?;
+    assert!(rt; counted(&state) == (0, 0, 0, 0));
+    Ok(())
+}
+
+// A state of three reads, two of which touch, and of which the others are polled.
+fn three_reads(alloc: Global) -> Result<State, Fail> {
+    let mut state = State::new(alloc, Some(0), None, aligned(0), 2);
     state.on_event(ReadEvent::Request(read(0, 0, 4)))?;
     state.on_event(ReadEvent::Request(read(1, 4, 4)))?;
     state.on_event(ReadEvent::Request(read(2, 9, 4)))?;
     state.on_event(ReadEvent::Polled(2))?;
     state.on_event(ReadEvent::Polled(0))?;
-    let spans = state.batch(rt.alloc(), 2)?;
+    Ok(state)
+}
+
+// What is counted of one call for these spans.
+fn counted_call(spans: &[CoalescedRequest]) -> RequestMetrics {
     let mut metrics = RequestMetrics::new();
     metrics.add_call(spans.len());
-    for span in &spans {
+    for span in spans {
         metrics.add_span(span.requests().len());
     }
+    metrics
+}
+
+#[test]
+fn a_batch_is_settled(rt: HostRuntime) -> Result<(), Fail> {
+    let mut state = three_reads(rt.alloc())?;
+    assert!(rt; state.concurrency() == 2 && state.counts().ranges == 0);
+    let spans = state.batch(rt.alloc(), 2)?;
+    let metrics = counted_call(spans.as_slice());
     assert!(rt; metrics.individual_requests == 1 && metrics.num_requests_coalesced == 2);
     assert!(rt; metrics.coalesced_requests == 1 && metrics.read_ranges_multi == 1);
     assert!(rt; metrics.read_ranges_calls == 1 && metrics.read_ranges_num_ranges == 2);
-    if !spans.is_empty() {
-        state.settle(spans.as_slice());
-    }
-    let counts = state.counts();
-    assert!(rt; counts.resolved == 3 && counts.ranges == 0);
+    assert!(rt; !spans.is_empty());
+    state.settle(spans.as_slice());
+    assert!(rt; counted(&state) == (0, 0, 3, 0));
     Ok(())
 }
 
