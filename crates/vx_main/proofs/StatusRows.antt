@@ -2,13 +2,14 @@
 use Rattle.std.proofs.Common.{◌≡◌, ℕ, Option, Some, None, Result, Ok, Err, refl, sym, ap, ◌∙◌, subst, arith, ◌⊎◌, inl, inr}
 use Rattle.vx_base.specs.Counts.{Rises}
 use Rattle.vx_base.specs.Streams.{SinkState}
-use Rattle.vx_main.specs.declared.command.Command.{Command}
-use Rattle.vx_main.specs.declared.failure.Failure.{Failure}
-use Rattle.vx_main.specs.declared.failure.Failure.TheVariants as failures
-use Rattle.vx_main.specs.Failures.{HasCause, status_of, message_of}
-use Rattle.vx_main.specs.Outputs.{refusal_status, wanted_status}
-use Rattle.vx_main.specs.Outside.{Outside, Steady}
-use Rattle.vx_main.specs.Runs.{Performs, Concludes, IsUnparsed, Reports, Runs, Prints}
+use Rattle.vx_commands.specs.declared.command.Command.{Command}
+use Rattle.vx_commands.specs.declared.failure.Failure.{Failure}
+use Rattle.vx_commands.specs.declared.failure.Failure.TheVariants as failures
+use Rattle.vx_commands.specs.Failures.{HasCause, status_of, message_of}
+use Rattle.vx_commands.specs.Outputs.{refusal_status, wanted_status}
+use Rattle.vx_commands.specs.Outside.{Outside, Steady}
+use Rattle.vx_commands.specs.Performs.{Performs, IsUnparsed, Reports, Prints}
+use Rattle.vx_main.specs.Runs.{Concludes, Runs}
 use Rattle.vx_main.specs.Statuses.{AllWell, EndsUnparsed, Means, Statuses}
 
 -- a count that stands still did not rise

@@ -5,11 +5,11 @@ use Rattle.vx_base.specs.Buffer.{Buffer}
 use Rattle.vx_base.specs.Memory.{MemSinkState, source_state, sink_state, opener_state, new_opener}
 use Rattle.vx_base.specs.Streams.{SinkState}
 use Rattle.vx_base.specs.declared.mischief.Mischief.{Mischief}
-use Rattle.vx_main.specs.declared.command.Command.{Command}
+use Rattle.vx_commands.specs.declared.command.Command.{Command}
 use Rattle.vx_main.specs.declared.memory.Left.{Left}
-use Rattle.vx_main.specs.Command.{names_of}
-use Rattle.vx_main.specs.Outputs.{IsTold, wanted_status}
-use Rattle.vx_main.specs.Outside.{Outside}
+use Rattle.vx_commands.specs.Command.{names_of}
+use Rattle.vx_commands.specs.Outputs.{IsTold, wanted_status}
+use Rattle.vx_commands.specs.Outside.{Outside}
 use Rattle.vx_main.specs.Runs.{Runs}
 
 abbrev pub Files : Type 0

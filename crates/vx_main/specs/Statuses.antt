@@ -7,14 +7,14 @@ use Rattle.vx_footer.specs.declared.write_error.WriteError.{WriteError}
 use Rattle.vx_rows.specs.declared.array_error.ArrayError.{ArrayError}
 use Rattle.vx_rows.specs.declared.bind_error.BindError.{BindError}
 use Rattle.vx_sched.specs.declared.fault.Fault.{Fault}
-use Rattle.vx_main.specs.declared.command.Command.{Command}
-use Rattle.vx_main.specs.declared.failure.Failure.{Failure}
-use Rattle.vx_main.specs.declared.failure.Failure.TheVariants as failures
-use Rattle.vx_main.specs.Command.{names_of, reads_input}
-use Rattle.vx_main.specs.Failures.{HasCause, message_of}
-use Rattle.vx_main.specs.Outputs.{IsTold, wanted_status}
-use Rattle.vx_main.specs.Outside.{Outside, Steady}
-use Rattle.vx_main.specs.Runs.{Fails, Prints, Reports}
+use Rattle.vx_commands.specs.declared.command.Command.{Command}
+use Rattle.vx_commands.specs.declared.failure.Failure.{Failure}
+use Rattle.vx_commands.specs.declared.failure.Failure.TheVariants as failures
+use Rattle.vx_commands.specs.Command.{names_of, reads_input}
+use Rattle.vx_commands.specs.Failures.{HasCause, message_of}
+use Rattle.vx_commands.specs.Outputs.{IsTold, wanted_status}
+use Rattle.vx_commands.specs.Outside.{Outside, Steady}
+use Rattle.vx_commands.specs.Performs.{Fails, Prints, Reports}
 
 -- a failure with its cause, and its line on the error stream
 pub record Says (c : Command) (before now : Outside) (err err_now : SinkState) (failure : Failure) : Type 0 where

@@ -1,8 +1,8 @@
 //! What follows from what a run does.
 ghost use Rattle.std.specs.Prelude.{ℕ, Option};
 ghost use Rattle.vx_base.specs.Streams.{SinkState};
-ghost use Rattle.vx_main.specs.declared.command.Command.{Command};
-ghost use Rattle.vx_main.specs.Outside.{Outside};
+ghost use Rattle.vx_commands.specs.declared.command.Command.{Command};
+ghost use Rattle.vx_commands.specs.Outside.{Outside};
 ghost use Rattle.vx_main.specs.Runs.{Runs};
 ghost use Rattle.vx_main.specs.Statuses.{Statuses};
 

@@ -1,36 +1,16 @@
 //! The program `vx`: serves the segments of files by a script, measures and skips files, and writes and prints rows.
-#![tactic(auto, using(vx_text::proofs::TextLemmas::adds_then, vx_text::proofs::TextLemmas::adds_nothing))]
+#![tactic(auto)]
 
-mod answer;
-mod command;
-mod commands;
-mod failure;
-mod filter;
-mod input;
 mod laws;
-mod made_file;
 mod memory;
-mod metadata_words;
-mod name;
-mod print;
-mod printable;
-mod reading;
-mod refusal;
-mod row_type;
-mod rows_file;
 mod run;
-mod scanning;
-mod script;
-mod serving;
-mod summary;
-mod table;
 mod words;
 
-use crate::failure::Failure;
 use std::io::BufWriter;
 use std::mem;
 use std::process::ExitCode;
 use vx_base::{FileOpener, StdSink, StdSource};
+use vx_commands::{Failure, fail, unread};
 
 // As many bytes are gathered before they go out. Small blocks of a file are a few bytes each.
 const OUTPUT_ROOM: usize = 1 << 18;
@@ -41,12 +21,12 @@ fn main(rt: HostRuntime) -> ExitCode {
     let words = match words::read_words(&rt) {
         Ok(words) => words,
         Err(error) => {
-            let failure = words::unread(error.kind());
-            return ExitCode::from(run::fail(alloc, &mut err, &failure));
+            let failure = unread(error.kind());
+            return ExitCode::from(fail(alloc, &mut err, &failure));
         }
     };
     let Ok(output) = BufWriter::with_capacity(alloc, OUTPUT_ROOM, rt.stdout()) else {
-        return ExitCode::from(run::fail(alloc, &mut err, &Failure::OutOfMemory));
+        return ExitCode::from(fail(alloc, &mut err, &Failure::OutOfMemory));
     };
     let mut input = StdSource::new(rt.stdin());
     let mut out = StdSink::new(output);

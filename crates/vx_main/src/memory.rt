@@ -1,6 +1,6 @@
 //! Runs the program over memory.
 ghost use Rattle.std.specs.Prelude.{map, string_bytes};
-ghost use Rattle.vx_main.specs.Command.{command_of};
+ghost use Rattle.vx_commands.specs.Command.{command_of};
 ghost use Rattle.vx_main.specs.InMemory.{RunsInMemory, EndsWell};
 
 use crate::run::run;

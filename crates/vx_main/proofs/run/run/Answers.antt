@@ -1,7 +1,7 @@
 use Rattle.std.proofs.Common.{Err, map}
 use Rattle.std.specs.Prelude.{string_bytes}
-use Rattle.vx_main.specs.Command.{command_of}
-use Rattle.vx_main.specs.Outside.{outside}
+use Rattle.vx_commands.specs.Command.{command_of}
+use Rattle.vx_commands.specs.Outside.{outside}
 use Rattle.vx_main.proofs.StatusRows.{statuses-of}
 use Rattle.vx_main.proofs.run.run.Goals as goal
 
