@@ -4,8 +4,8 @@ use std::fs;
 use std::test::Fail;
 use vx_base::{
     Alignment, ByteBuffer, FaultKind, FileOpener, FileReader, MemOpener, MemReader, MemSink,
-    MemSource, Mischief, MischiefKind, Opener, ReadAtRequest, Reader, Sequence, Sink, Source,
-    StdSink, StdSource, Text, WithWindow, log_answers, write_flushed, write_pieces,
+    MemSource, Mischief, MischiefKind, Opener, RangeAnswer, ReadAtRequest, Reader, Sequence, Sink,
+    Source, StdSink, StdSource, Text, WithWindow, log_answers, write_flushed, write_pieces,
 };
 
 fn range(offset: u64, length: usize) -> ReadAtRequest {
@@ -21,20 +21,36 @@ fn buffer(alloc: Global, bytes: &[u8]) -> Result<ByteBuffer, Fail> {
     Ok(ByteBuffer::from_vec(alloc, bytes, Alignment::none())?)
 }
 
+// The bytes from 1 to 4 of a buffer, with an alignment of 8 bytes.
+fn cut(alloc: Global, whole: &ByteBuffer) -> Result<ByteBuffer, Fail> {
+    if whole.len() < 4 {
+        return Err(Fail::from("too short"));
+    }
+    let alignment = Alignment::new(3).ok().ok_or("no alignment")?;
+    Ok(whole.slice(alloc, 1..4)?.aligned(alignment))
+}
+
 #[test]
 fn buffers_are_cut_and_shared(rt: HostRuntime) -> Result<(), Fail> {
-    let whole = buffer(rt.alloc(), b"vortex")?;
-    assert_eq!(rt; whole.len(), 6);
-    let part = whole
-        .slice(rt.alloc(), 1..4)?
-        .aligned(Alignment::new(3).ok().ok_or("no alignment")?);
+    let part = cut(rt.alloc(), &buffer(rt.alloc(), b"vortex")?)?;
     assert_eq!(rt; part.share(rt.alloc())?.as_slice(), b"ort".as_slice());
     assert_eq!(rt; part.alignment().as_u64(), 8);
+    Ok(())
+}
+
+// A buffer with these bytes behind its own.
+fn extended(alloc: Global, buffer: ByteBuffer, bytes: &[u8]) -> Result<ByteBuffer, Fail> {
+    Ok(buffer.extended(alloc, bytes)?)
+}
+
+#[test]
+fn buffers_are_extended(rt: HostRuntime) -> Result<(), Fail> {
     // the bytes of one are shared, and those of the other are not
-    let longer = part.extended(rt.alloc(), b"ex")?;
+    let whole = buffer(rt.alloc(), b"vortex")?;
+    let longer = extended(rt.alloc(), cut(rt.alloc(), &whole)?, b"ex")?;
     assert_eq!(rt; longer.as_slice(), b"ortex".as_slice());
     assert_eq!(rt; longer.alignment().as_u64(), 8);
-    let alone = buffer(rt.alloc(), b"vor")?.extended(rt.alloc(), b"tex")?;
+    let alone = extended(rt.alloc(), buffer(rt.alloc(), b"vor")?, b"tex")?;
     assert_eq!(rt; alone.as_slice(), whole.as_slice());
     Ok(())
 }
@@ -53,8 +69,8 @@ fn small_types_keep_what_they_get(rt: HostRuntime) -> Result<(), Fail> {
     Ok(())
 }
 
-#[test]
-fn mischief_is_done_at_its_place(rt: HostRuntime) -> Result<(), Fail> {
+// A reader of ten digits that does each mischief once, under a window.
+fn mischievous(alloc: Global) -> Result<WithWindow<MemReader>, Fail> {
     let kinds = [
         (0, MischiefKind::Late),
         (1, MischiefKind::Fail),
@@ -64,19 +80,52 @@ fn mischief_is_done_at_its_place(rt: HostRuntime) -> Result<(), Fail> {
         (0, MischiefKind::Size),
         (0, MischiefKind::Clone),
     ];
-    let mut wrongs = Vec::new(rt.alloc());
+    let mut wrongs = Vec::new(alloc);
     for (at, kind) in kinds {
         wrongs.push(Mischief { at, kind })?;
     }
-    let bytes = buffer(rt.alloc(), b"0123456789")?;
-    let reader = MemReader::new(rt.alloc(), bytes, None, None, 8, wrongs)?;
-    let mut reader = WithWindow::new(reader, Some(4), Some(100), 6);
+    let bytes = buffer(alloc, b"0123456789")?;
+    let reader = MemReader::new(alloc, bytes, None, None, 8, wrongs)?;
+    Ok(WithWindow::new(reader, Some(4), Some(100), 6))
+}
+
+#[test]
+fn a_size_and_a_clone_fail_once(rt: HostRuntime) -> Result<(), Fail> {
+    let mut reader = mischievous(rt.alloc())?;
     assert_eq!(rt; reader.coalesce_distance(), Some(4));
     assert_eq!(rt; reader.max_read_size(), Some(100));
     assert!(rt; reader.size().is_err());
     assert_eq!(rt; reader.size().ok(), Some(10));
     assert!(rt; reader.try_clone(rt.alloc()).is_err());
     assert!(rt; reader.try_clone(rt.alloc()).is_ok());
+    Ok(())
+}
+
+// Whether an answer names a range, and has these bytes, if any are told.
+fn is_answer(answer: &RangeAnswer, offset: u64, length: usize, told: Option<&[u8]>) -> bool {
+    let bytes = answer.result.as_ref().ok().map(|bytes| bytes.as_slice());
+    answer.request == range(offset, length) && (told.is_none() || bytes == told)
+}
+
+// Whether the ranges have these marks by their answers.
+fn have_marks(
+    alloc: Global,
+    asked: &[ReadAtRequest],
+    answers: &[RangeAnswer],
+    marks: &[Option<FaultKind>],
+) -> Result<bool, Fail> {
+    let log = log_answers(alloc, asked, answers)?;
+    for (entry, mark) in log.iter().zip(marks) {
+        if entry.mark != *mark {
+            return Ok(false);
+        }
+    }
+    Ok(log.len() == marks.len())
+}
+
+#[test]
+fn mischief_is_done_at_its_place(rt: HostRuntime) -> Result<(), Fail> {
+    let alloc = rt.alloc();
     let asked = [
         range(0, 1),
         range(1, 1),
@@ -85,27 +134,25 @@ fn mischief_is_done_at_its_place(rt: HostRuntime) -> Result<(), Fail> {
         range(5, 1),
         range(9, 2),
     ];
-    let answers = reader.read_ranges(rt.alloc(), &asked)?;
-    assert_eq!(rt; answers.len(), 6);
-    assert_eq!(rt; answers[0].request, range(1, 1));
-    assert_eq!(rt;
-        answers[1]
-            .result
-            .as_ref()
-            .ok()
-            .ok_or("no bytes")?
-            .as_slice(),
-        b"2".as_slice()
-    );
-    assert_eq!(rt; answers[2].request, range(9, 1));
-    assert_eq!(rt; answers[5].request, range(0, 1));
-    let log = log_answers(rt.alloc(), &asked, answers.as_slice())?;
-    assert_eq!(rt; log[0].mark, None);
-    assert_eq!(rt; log[1].mark, Some(FaultKind::ReadFault));
-    assert_eq!(rt; log[2].mark, Some(FaultKind::ShortRead));
-    assert_eq!(rt; log[3].mark, Some(FaultKind::MissingRange));
-    assert_eq!(rt; log[4].mark, None);
-    assert_eq!(rt; log[5].mark, Some(FaultKind::ReadFault));
+    let mut reader = mischievous(alloc)?;
+    assert!(rt; asked.len() <= reader.concurrency());
+    let answers = reader.read_ranges(alloc, &asked)?;
+    let [failed, short, unknown, _, _, late] = answers.as_slice() else {
+        return Err(Fail::from("not six answers"));
+    };
+    assert!(rt; is_answer(failed, 1, 1, None));
+    assert!(rt; is_answer(short, 2, 2, Some(b"2")));
+    assert!(rt; is_answer(unknown, 9, 1, None));
+    assert!(rt; is_answer(late, 0, 1, None));
+    let marks = [
+        None,
+        Some(FaultKind::ReadFault),
+        Some(FaultKind::ShortRead),
+        Some(FaultKind::MissingRange),
+        None,
+        Some(FaultKind::ReadFault),
+    ];
+    assert!(rt; have_marks(alloc, &asked, answers.as_slice(), &marks)?);
     assert_eq!(rt; reader.into_inner().asked(), asked.as_slice());
     Ok(())
 }
@@ -128,17 +175,22 @@ fn streams_in_memory_fail_where_they_are_told(rt: HostRuntime) -> Result<(), Fai
     Ok(())
 }
 
-#[test]
-fn an_opener_in_memory_finds_the_first_of_a_name(rt: HostRuntime) -> Result<(), Fail> {
-    let mut files = Vec::new(rt.alloc());
+// An opener of two files of one name, whose second call fails.
+fn opener_of_two(alloc: Global) -> Result<MemOpener, Fail> {
+    let mut files = Vec::new(alloc);
     for bytes in [b"one".as_slice(), b"second".as_slice()] {
         files.push((
-            String::from_str(rt.alloc(), "a")?,
-            buffer(rt.alloc(), bytes)?,
-            Vec::new(rt.alloc()),
+            String::from_str(alloc, "a")?,
+            buffer(alloc, bytes)?,
+            Vec::new(alloc),
         ))?;
     }
-    let mut opener = MemOpener::new(rt.alloc(), files, vec![in rt.alloc(); 1]?);
+    Ok(MemOpener::new(alloc, files, vec![in alloc; 1]?))
+}
+
+#[test]
+fn an_opener_in_memory_finds_the_first_of_a_name(rt: HostRuntime) -> Result<(), Fail> {
+    let mut opener = opener_of_two(rt.alloc())?;
     let mut reader = opener.open_named(rt.alloc(), "a").ok().ok_or("not opened")?;
     assert_eq!(rt; reader.size().ok(), Some(3));
     assert_eq!(rt; reader.concurrency(), 8);
@@ -181,20 +233,27 @@ fn ask_real(alloc: Global, reader: &mut FileReader) -> Result<Option<ByteBuffer>
     Ok(first.result.ok())
 }
 
+// The bytes of a file that a reader of its name answers.
+fn ask_named(rt: &HostRuntime, path: &str) -> Result<ByteBuffer, Fail> {
+    let mut opener = FileOpener::new(*rt);
+    let mut reader = opener
+        .open_named(rt.alloc(), path)
+        .ok()
+        .ok_or("not opened")?;
+    let bytes = ask_real(rt.alloc(), &mut reader)?.ok_or("no bytes")?;
+    opener.take_back(rt.alloc(), path, reader)?;
+    Ok(bytes)
+}
+
 #[test]
 fn real_files_are_read_and_written(rt: HostRuntime) -> Result<(), Fail> {
     let path = path_of(&rt)?;
     assert_eq!(rt; write_real(&rt, path.as_str())?, (Some(6), true));
     assert_eq!(rt; read_real(&rt, path.as_str())?, (Some(6), Some(0)));
-    let mut opener = FileOpener::new(rt);
-    let mut reader = opener
-        .open_named(rt.alloc(), path.as_str())
-        .ok()
-        .ok_or("not opened")?;
-    let bytes = ask_real(rt.alloc(), &mut reader)?.ok_or("no bytes")?;
+    let bytes = ask_named(&rt, path.as_str())?;
     assert_eq!(rt; bytes.as_slice(), b"tex".as_slice());
-    opener.take_back(rt.alloc(), path.as_str(), reader)?;
     fs::remove_file(&rt, path.as_str())?;
-    assert!(rt; opener.open_named(rt.alloc(), path.as_str()).is_err());
+    let opened = FileOpener::new(rt).open_named(rt.alloc(), path.as_str());
+    assert!(rt; opened.is_err());
     Ok(())
 }

@@ -1,6 +1,6 @@
 use std::alloc::Global;
 use std::test::*;
-use vx_base::SegmentId;
+use vx_base::{ByteBuffer, SegmentId};
 use vx_data::*;
 use vx_tables::TableWriter;
 
@@ -110,30 +110,35 @@ fn looks_at_fields_of_every_kind(rt: HostRuntime) -> Result<(), Fail> {
     ];
     for (kind, inner, answer) in rows {
         let table = with_field(rt.alloc(), kind, of_kind(rt.alloc(), inner)?)?;
-        let buffer = table.finish(rt.alloc())?;
-        assert_eq!(rt; told_dtype(rt.alloc(), buffer.as_slice())?.as_str(), answer);
+        assert_eq!(rt; told_table(rt.alloc(), table)?.as_str(), answer);
     }
     Ok(())
 }
 
+// The text of the type that a table spells, or the name of the refusal.
+fn told_table(alloc: Global, table: TableWriter) -> Result<String, Fail> {
+    told_dtype(alloc, table.finish(alloc)?.as_slice())
+}
+
+// A type table of structs, so many of them one in the other, around the type of truth values.
+fn nested_table(alloc: Global, levels: usize) -> Result<TableWriter, Fail> {
+    let mut table = of_kind(alloc, 1)?;
+    for _ in 0..levels {
+        table = with_field(alloc, 4, table)?;
+    }
+    Ok(table)
+}
+
+// Whether a table spells a type.
+fn is_type(alloc: Global, table: TableWriter) -> Result<bool, Fail> {
+    Ok(DType::read(alloc, table.finish(alloc)?.as_slice()).is_ok())
+}
+
 #[test]
 fn reads_64_levels_of_types(rt: HostRuntime) -> Result<(), Fail> {
-    let mut table = of_kind(rt.alloc(), 1)?;
-    for _ in 0..63 {
-        table = with_field(rt.alloc(), 4, table)?;
-    }
-    let deepest = with_field(rt.alloc(), 4, of_kind(rt.alloc(), 1)?)?;
-    let buffer = table.finish(rt.alloc())?;
-    assert!(rt; DType::read(rt.alloc(), buffer.as_slice()).is_ok());
-    let mut table = deepest;
-    for _ in 0..63 {
-        table = with_field(rt.alloc(), 4, table)?;
-    }
-    let buffer = table.finish(rt.alloc())?;
-    assert_eq!(rt;
-        told_dtype(rt.alloc(), buffer.as_slice())?.as_str(),
-        "BadTable"
-    );
+    assert!(rt; is_type(rt.alloc(), nested_table(rt.alloc(), 63)?)?);
+    let deeper = nested_table(rt.alloc(), 64)?;
+    assert_eq!(rt; told_table(rt.alloc(), deeper)?.as_str(), "BadTable");
     Ok(())
 }
 
@@ -268,13 +273,18 @@ fn reads_statistics(rt: HostRuntime) -> Result<(), Fail> {
     ];
     for (min, count, answer) in rows {
         let buffer = statistics(rt.alloc(), min, count)?.finish(rt.alloc())?;
-        let told = match read_stats(rt.alloc(), buffer.as_slice(), &dtype) {
-            Ok(sets) => told_sets(rt.alloc(), &sets)?,
-            Err(error) => format!(in rt.alloc(); "{error:?}")?,
-        };
+        let told = told_stats(rt.alloc(), buffer.as_slice(), &dtype)?;
         assert_eq!(rt; told.as_str(), answer);
     }
     Ok(())
+}
+
+// The statistics of the columns of a type that a table spells, or the name of the refusal.
+fn told_stats(alloc: Global, bytes: &[u8], dtype: &DType) -> Result<String, Fail> {
+    match read_stats(alloc, bytes, dtype) {
+        Ok(sets) => told_sets(alloc, &sets),
+        Err(error) => Ok(format!(in alloc; "{error:?}")?),
+    }
 }
 
 fn told_sets(alloc: Global, sets: &[StatsSet]) -> Result<String, Fail> {
@@ -302,21 +312,32 @@ const STATISTICS: [u8; 81] = [
     0x00,
 ];
 
-#[test]
-fn writes_statistics(rt: HostRuntime) -> Result<(), Fail> {
+// The statistics of a column of values from -2 to 5, two of them null.
+fn some_statistics() -> StatsSet {
     let mut set = StatsSet::new();
     set.set(Stat::Min, Scalar::Int(-2), Precision::Exact);
     set.set(Stat::Max, Scalar::Int(5), Precision::Inexact);
     set.set(Stat::NullCount, Scalar::Int(2), Precision::Exact);
-    let mut sets = Vec::new(rt.alloc());
-    sets.push(set)?;
-    let mut dtypes = Vec::new(rt.alloc());
-    dtypes.push(DType::Int(PType::I32, true))?;
-    let buffer = write_stats(rt.alloc(), &sets, &dtypes)?;
+    set
+}
+
+// The table of the statistics of one column.
+fn table_of_set(
+    alloc: Global,
+    sets: &[StatsSet; 1],
+    dtypes: &[DType; 1],
+) -> Result<ByteBuffer, Fail> {
+    Ok(write_stats(alloc, sets, dtypes)?)
+}
+
+#[test]
+fn writes_statistics(rt: HostRuntime) -> Result<(), Fail> {
+    let sets = [some_statistics()];
+    let dtypes = [DType::Int(PType::I32, true)];
+    let buffer = table_of_set(rt.alloc(), &sets, &dtypes)?;
     assert_eq!(rt; buffer.as_slice(), STATISTICS.as_slice());
-    let read = read_stats(rt.alloc(), buffer.as_slice(), &DType::Int(PType::I32, true))?;
     assert_eq!(rt;
-        told_sets(rt.alloc(), &read)?,
+        told_stats(rt.alloc(), buffer.as_slice(), &dtypes[0])?,
         told_sets(rt.alloc(), &sets)?
     );
     assert!(rt; stats_have_few_visits(rt.alloc(), &sets, &dtypes)?);
@@ -339,37 +360,58 @@ fn enables_ids(rt: HostRuntime) -> Result<(), Fail> {
     Ok(())
 }
 
+// The table of a type.
+fn table_of_type(alloc: Global, dtype: &DType) -> Result<ByteBuffer, Fail> {
+    Ok(dtype.write(alloc)?)
+}
+
+// The table of a layout by the ids that it uses, and how many these are.
+fn table_of_layout(alloc: Global, layout: &Layout) -> Result<(ByteBuffer, usize), Fail> {
+    let ids = layout.used_ids(alloc)?;
+    Ok((layout.write(alloc, &ids)?, ids.len()))
+}
+
 #[test]
 fn writes_tables(rt: HostRuntime) -> Result<(), Fail> {
     let dtype = DType::Int(PType::I32, false);
-    assert_eq!(rt; dtype.write(rt.alloc())?.as_slice(), DTYPE.as_slice());
+    let table = table_of_type(rt.alloc(), &dtype)?;
+    assert_eq!(rt; table.as_slice(), DTYPE.as_slice());
     let layout = Layout::flat(rt.alloc(), dtype, 4, SegmentId(0))?;
-    let ids = layout.used_ids(rt.alloc())?;
     assert!(rt; layout.has_few_levels() && layout.has_few_visits());
-    assert_eq!(rt; ids.len(), 1);
-    assert_eq!(rt;
-        layout.write(rt.alloc(), &ids)?.as_slice(),
-        LAYOUT.as_slice()
-    );
+    let (table, ids) = table_of_layout(rt.alloc(), &layout)?;
+    assert_eq!(rt; table.as_slice(), LAYOUT.as_slice());
+    assert_eq!(rt; ids, 1);
+    Ok(())
+}
+
+#[test]
+fn keeps_the_ids_of_a_context(rt: HostRuntime) -> Result<(), Fail> {
+    let ids = texts(rt.alloc(), &["vortex.flat"])?;
     let context = LayoutContext::new(Some(ids));
     assert!(rt; context.permitted().is_some());
     Ok(())
 }
 
+// Structs, so many of them one in the other, around a type.
+fn nested_type(alloc: Global, levels: usize) -> Result<DType, Fail> {
+    let mut dtype = DType::Bool(true);
+    for _ in 0..levels {
+        dtype = within_struct(alloc, dtype)?;
+    }
+    Ok(dtype)
+}
+
+// Whether a type is read again from its table.
+fn is_read_again(alloc: Global, dtype: &DType) -> Result<bool, Fail> {
+    let read = DType::read(alloc, table_of_type(alloc, dtype)?.as_slice())?;
+    Ok(read.to_text(alloc)? == dtype.to_text(alloc)?)
+}
+
 #[test]
 fn writes_64_levels_of_types(rt: HostRuntime) -> Result<(), Fail> {
-    let mut dtype = DType::Bool(true);
-    for _ in 0..63 {
-        dtype = within_struct(rt.alloc(), dtype)?;
-    }
-    let buffer = dtype.write(rt.alloc())?;
-    let read = DType::read(rt.alloc(), buffer.as_slice())?;
-    assert_eq!(rt; read.to_text(rt.alloc())?, dtype.to_text(rt.alloc())?);
-    let dtype = within_struct(rt.alloc(), dtype)?;
-    assert_eq!(rt;
-        dtype.write(rt.alloc()).err(),
-        Some(TableWriteError::TooDeep)
-    );
+    assert!(rt; is_read_again(rt.alloc(), &nested_type(rt.alloc(), 63)?)?);
+    let refused = nested_type(rt.alloc(), 64)?.write(rt.alloc()).err();
+    assert_eq!(rt; refused, Some(TableWriteError::TooDeep));
     Ok(())
 }
 

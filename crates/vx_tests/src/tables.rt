@@ -90,14 +90,19 @@ fn writes_a_layout(rt: HostRuntime) -> Result<(), Fail> {
     Ok(())
 }
 
+// A table for each id.
+fn id_tables(alloc: Global, ids: &[&str]) -> Result<Vec<TableWriter>, AllocError> {
+    let mut tables = Vec::new(alloc);
+    for id in ids {
+        tables.push(id_table(alloc, id)?)?;
+    }
+    Ok(tables)
+}
+
 #[test]
 fn writes_a_footer(rt: HostRuntime) -> Result<(), Fail> {
-    let mut arrays = Vec::new(rt.alloc());
-    for id in ARRAY_IDS {
-        arrays.push(id_table(rt.alloc(), id)?)?;
-    }
-    let mut layouts = Vec::new(rt.alloc());
-    layouts.push(id_table(rt.alloc(), "vortex.flat")?)?;
+    let arrays = id_tables(rt.alloc(), &ARRAY_IDS)?;
+    let layouts = id_tables(rt.alloc(), &["vortex.flat"])?;
     let specs = [SegmentSpec {
         offset: 8,
         length: 18,
@@ -112,23 +117,37 @@ fn writes_a_footer(rt: HostRuntime) -> Result<(), Fail> {
     Ok(())
 }
 
+// The same tables as a list.
+fn id_list(alloc: Global, ids: &[&str]) -> Result<TableList, AllocError> {
+    let mut list = TableList::new(alloc);
+    for id in ids {
+        list.push(&id_table(alloc, id)?)?;
+    }
+    Ok(list)
+}
+
+// A table with a list in its first slot.
+fn with_list(alloc: Global, list: &TableList) -> Result<ByteBuffer, TableError> {
+    let mut table = TableWriter::new(alloc);
+    table.push_list(alloc, 0, list)?;
+    table.finish(alloc)
+}
+
+// A table with a vector of tables in its first slot.
+fn with_tables(alloc: Global, tables: Vec<TableWriter>) -> Result<ByteBuffer, TableError> {
+    let mut table = TableWriter::new(alloc);
+    table.push_tables(alloc, 0, tables)?;
+    table.finish(alloc)
+}
+
 #[test]
 fn writes_listed_tables_as_their_vector(rt: HostRuntime) -> Result<(), Fail> {
     let alloc = rt.alloc();
-    let mut list = TableList::new(alloc);
-    assert!(rt; list.is_empty());
-    let mut tables = Vec::new(alloc);
-    for id in ARRAY_IDS {
-        let table = id_table(alloc, id)?;
-        list.push(&table)?;
-        tables.push(table)?;
-    }
+    assert!(rt; TableList::new(alloc).is_empty());
+    let list = id_list(alloc, &ARRAY_IDS)?;
     assert!(rt; !list.is_empty());
-    let mut listed = TableWriter::new(alloc);
-    listed.push_list(alloc, 0, &list)?;
-    let mut kept = TableWriter::new(alloc);
-    kept.push_tables(alloc, 0, tables)?;
-    let (listed, kept) = (listed.finish(alloc)?, kept.finish(alloc)?);
+    let listed = with_list(alloc, &list)?;
+    let kept = with_tables(alloc, id_tables(alloc, &ARRAY_IDS)?)?;
     assert!(rt; listed.as_slice() == kept.as_slice());
     Ok(())
 }
