@@ -12,8 +12,8 @@ use vx_base::{
     SegmentId, SegmentSpec, Sequence,
 };
 use vx_source::{
-    BufferSegmentSource, FailCause, InitialReadSegmentCache, LruSegments, Reply, SegmentSource,
-    Session, SessionSource, SourceError, SpanOutcome, Tail,
+    BufferSegmentSource, FailCause, Fetched, InitialReadSegmentCache, LruSegments, Reply,
+    SegmentSource, Session, SessionSource, SourceError, SpanOutcome, Tail,
 };
 
 // A step of a script.
@@ -62,6 +62,17 @@ fn letters(alloc: Global, mischief: Vec<Mischief>) -> Result<MemReader, Fail> {
     Ok(MemReader::new(alloc, bytes, None, None, 2, mischief)?)
 }
 
+// A reader of sixteen letters whose second range fails.
+fn failing_once(alloc: Global) -> Result<MemReader, Fail> {
+    let wrongs = vec![in alloc;
+        Mischief {
+            at: 1,
+            kind: MischiefKind::Fail
+        },
+    ]?;
+    letters(alloc, wrongs)
+}
+
 // How many spans failed.
 fn bad(spans: &[vx_source::Span]) -> usize {
     let mut count = 0usize;
@@ -106,6 +117,44 @@ fn is_found(found: &Result<ByteBuffer, SourceError>, want: Want) -> bool {
     }
 }
 
+// The calls of a session and of caches stand in functions that promise nothing, so that no proof of a test looks at all
+// that they promise.
+
+// The reply to a register.
+fn registered(
+    rt: &impl Abort,
+    alloc: Global,
+    session: &mut Session,
+    cache: &mut MemCache,
+    segment: u32,
+) -> Result<Reply, Fail> {
+    assert!(rt; session.made() < u64::MAX);
+    Ok(session.register(alloc, cache, SegmentId(segment))?)
+}
+
+// The reply to a poll.
+fn polled(alloc: Global, session: &mut Session, number: u64) -> Result<Reply, Fail> {
+    Ok(session.poll(alloc, number)?)
+}
+
+// The reply to a drop.
+fn dropped(session: &mut Session, number: u64) -> Reply {
+    session.drop_request(number)
+}
+
+// The reply to a drive.
+fn driven(
+    rt: &impl Abort,
+    alloc: Global,
+    session: &mut Session,
+    reader: &mut MemReader,
+    cache: &mut MemCache,
+) -> Result<Reply, Fail> {
+    assert!(rt; session.concurrency() <= reader.concurrency());
+    let spans = session.drive(alloc, reader, cache)?;
+    Ok(Reply::Driven(Sequence::from_vec(spans)))
+}
+
 // The reply to one step.
 fn answer(
     rt: &impl Abort,
@@ -116,17 +165,10 @@ fn answer(
     step: Step,
 ) -> Result<Reply, Fail> {
     match step {
-        Step::Register(segment) => {
-            assert!(rt; session.made() < u64::MAX);
-            Ok(session.register(alloc, cache, SegmentId(segment))?)
-        }
-        Step::Poll(number) => Ok(session.poll(alloc, number)?),
-        Step::Drop(number) => Ok(session.drop_request(number)),
-        Step::Drive => {
-            assert!(rt; session.concurrency() <= reader.concurrency());
-            let spans = session.drive(alloc, reader, cache)?;
-            Ok(Reply::Driven(Sequence::from_vec(spans)))
-        }
+        Step::Register(segment) => registered(rt, alloc, session, cache, segment),
+        Step::Poll(number) => polled(alloc, session, number),
+        Step::Drop(number) => Ok(dropped(session, number)),
+        Step::Drive => driven(rt, alloc, session, reader, cache),
     }
 }
 
@@ -209,13 +251,7 @@ fn nobody_waits_for_a_dropped_request(rt: HostRuntime) -> Result<(), Fail> {
 #[test]
 fn a_failed_read_fails_alone_and_is_read_again(rt: HostRuntime) -> Result<(), Fail> {
     let mut session = two_segments(rt.alloc(), None, None)?;
-    let wrongs = vec![in rt.alloc();
-        Mischief {
-            at: 1,
-            kind: MischiefKind::Fail
-        },
-    ]?;
-    let mut reader = letters(rt.alloc(), wrongs)?;
+    let mut reader = failing_once(rt.alloc())?;
     let mut cache = empty_cache(rt.alloc(), Vec::new(rt.alloc()));
     let rows = [
         (Step::Register(0), Want::Registered(0, false)),
@@ -305,32 +341,42 @@ fn three_segments(alloc: Global) -> Result<Session, Fail>
     Ok(Session::new(alloc, segments, Some(2), None, 2, None)?)
 }
 
+// What a new session fetches of three segments and of one that it has not.
+fn fetched(rt: &impl Abort, alloc: Global, reader: &mut MemReader) -> Result<Fetched, Fail> {
+    let mut session = three_segments(alloc)?;
+    let mut cache = empty_cache(alloc, Vec::new(alloc));
+    let ids = [SegmentId(1), SegmentId(0), SegmentId(3), SegmentId(2)];
+    assert!(rt; session.made() == 0 && session.concurrency() <= reader.concurrency());
+    Ok(session.segments(alloc, reader, &mut cache, &ids)?)
+}
+
 #[test]
 fn segments_are_fetched_in_one_drive(rt: HostRuntime) -> Result<(), Fail> {
-    let mut session = three_segments(rt.alloc())?;
-    let wrongs = vec![in rt.alloc();
-        Mischief {
-            at: 1,
-            kind: MischiefKind::Fail
-        },
-    ]?;
-    let mut reader = letters(rt.alloc(), wrongs)?;
-    let mut cache = empty_cache(rt.alloc(), Vec::new(rt.alloc()));
-    let ids = [SegmentId(1), SegmentId(0), SegmentId(3), SegmentId(2)];
+    let mut reader = failing_once(rt.alloc())?;
     let wants = [
         Want::Ready(b'e'),
         Want::Ready(b'a'),
         Want::Missing,
         Want::Failed,
     ];
-    assert!(rt; session.made() == 0 && session.concurrency() <= reader.concurrency());
-    let fetched = session.segments(rt.alloc(), &mut reader, &mut cache, &ids)?;
+    let fetched = fetched(&rt, rt.alloc(), &mut reader)?;
     assert!(rt; fetched.replies.len() == wants.len() && fetched.spans.len() == 2);
     for (reply, want) in fetched.replies.as_slice().iter().zip(wants) {
         assert!(rt; meets(reply, want));
     }
     assert!(rt; bad(fetched.spans.as_slice()) == 1 && reader.asked().len() == 2);
     Ok(())
+}
+
+// Puts four bytes under a number.
+fn put<C: SegmentCache>(alloc: Global, cache: &mut C, segment: u32) -> Result<(), Fail> {
+    Ok(cache.put(alloc, SegmentId(segment), buffer(alloc, b"efgh")?)?)
+}
+
+// The first byte that a cache has under a number.
+fn first<C: SegmentCache>(alloc: Global, cache: &mut C, segment: u32) -> Result<Option<u8>, Fail> {
+    let found = cache.get(alloc, SegmentId(segment))?;
+    Ok(found.and_then(|bytes| bytes.as_slice().first().copied()))
 }
 
 #[test]
@@ -348,9 +394,9 @@ fn the_segment_that_was_used_least_recently_goes(rt: HostRuntime) -> Result<(), 
     ];
     for (segment, held) in rows {
         match held {
-            None => cache.put(rt.alloc(), SegmentId(segment), buffer(rt.alloc(), b"abcd")?)?,
+            None => put(rt.alloc(), &mut cache, segment)?,
             Some(held) => {
-                assert!(rt; cache.get(rt.alloc(), SegmentId(segment))?.is_some() == held);
+                assert!(rt; first(rt.alloc(), &mut cache, segment)?.is_some() == held);
             }
         }
     }
@@ -365,29 +411,39 @@ fn a_segment_of_the_initial_read_stays(rt: HostRuntime) -> Result<(), Fail> {
     let fallback = LruSegments::new(rt.alloc(), 1)?;
     let mut cache = InitialReadSegmentCache { initial, fallback };
     for segment in [0u32, 1, 2] {
-        cache.put(rt.alloc(), SegmentId(segment), buffer(rt.alloc(), b"efgh")?)?;
+        put(rt.alloc(), &mut cache, segment)?;
     }
-    let first = cache.get(rt.alloc(), SegmentId(0))?;
-    assert!(rt; first.is_some_and(|bytes| bytes.as_slice().first() == Some(&b'a')));
-    assert!(rt; cache.get(rt.alloc(), SegmentId(1))?.is_none());
-    assert!(rt; cache.get(rt.alloc(), SegmentId(2))?.is_some());
+    assert!(rt; first(rt.alloc(), &mut cache, 0)? == Some(b'a'));
+    assert!(rt; first(rt.alloc(), &mut cache, 1)?.is_none());
+    assert!(rt; first(rt.alloc(), &mut cache, 2)? == Some(b'e'));
     Ok(())
+}
+
+// A source over a session for three segments, whose reader and cache fail once.
+fn failing_source(
+    rt: &impl Abort,
+    alloc: Global,
+) -> Result<SessionSource<MemReader, MemCache>, Fail> {
+    let session = three_segments(alloc)?;
+    let reader = failing_once(alloc)?;
+    assert!(rt; session.concurrency() <= reader.concurrency());
+    // The cache is asked for each segment that the table has, and each that was read is put into it.
+    let cache = empty_cache(alloc, vec![in alloc; 5u64]?);
+    Ok(SessionSource::new(session, reader, cache))
+}
+
+// What a source answers for a segment.
+fn found(
+    alloc: Global,
+    source: &mut SessionSource<MemReader, MemCache>,
+    segment: u32,
+) -> Result<ByteBuffer, SourceError> {
+    source.segment(alloc, SegmentId(segment))
 }
 
 #[test]
 fn a_source_over_a_session_gives_its_segments(rt: HostRuntime) -> Result<(), Fail> {
-    let session = three_segments(rt.alloc())?;
-    let wrongs = vec![in rt.alloc();
-        Mischief {
-            at: 1,
-            kind: MischiefKind::Fail
-        },
-    ]?;
-    let reader = letters(rt.alloc(), wrongs)?;
-    assert!(rt; session.concurrency() <= reader.concurrency());
-    // The cache is asked for each segment that the table has, and each that was read is put into it.
-    let cache = empty_cache(rt.alloc(), vec![in rt.alloc(); 5u64]?);
-    let mut source = SessionSource::new(session, reader, cache);
+    let mut source = failing_source(&rt, rt.alloc())?;
     let rows = [
         (1u32, Want::Ready(b'e')),
         (2, Want::Failed),
@@ -397,8 +453,7 @@ fn a_source_over_a_session_gives_its_segments(rt: HostRuntime) -> Result<(), Fai
         (2, Want::Ready(b'm')),
     ];
     for (id, want) in rows {
-        let found = source.segment(rt.alloc(), SegmentId(id));
-        assert!(rt; is_found(&found, want));
+        assert!(rt; is_found(&found(rt.alloc(), &mut source, id), want));
     }
     let (_, reader, _) = source.into_parts();
     assert!(rt; reader.asked().len() == 3);
